@@ -1,0 +1,19 @@
+-- The laws of document 01's definitions, by subject.
+pub mod Tables
+pub mod Insert
+pub mod Places
+pub mod Parted
+pub mod Constant
+pub mod Words
+pub mod Sound
+pub mod Kept
+pub mod Agree
+pub mod Listing
+pub mod Members
+pub mod Pigeon
+pub mod Walks
+pub mod Circles
+pub mod Ranks
+pub mod Means
+pub mod Ends
+pub mod Exchange

@@ -1,0 +1,99 @@
+-- Laws of `placeOf`: it is the last place up to n whose lower end is at most a.
+-- Assumes nothing.
+use mathlib.Core.Path.{_≡_, refl, ap}
+use mathlib.Core.List.{List, [], _∷_}
+use mathlib.Core.Bool.{Bool, true, false}
+use mathlib.Core.Logic.{_⊎_, inl, inr, ⊎-elim}
+use Prim.Native.Nat.{ℕ, zero, suc, _+_, _≤_, _<_}
+use native.Mathlib.Nat.{not-suc-le-zero, le-of-suc-le-suc, eq-or-lt-of-le}
+use native.Mathlib.Numerals.{add-one}
+use native.Mathlib.Omega.{arith}
+use lib.Dec.{leb}
+use lib.ListN.{length, getD, set}
+use borrow.Author.Tests.{leb-true, leb-false}
+use Rattle.meaning.proofs.Tables.{Cuts, Holds}
+use Rattle.meaning.specs.Atoms.{placeOf}
+use Rattle.meaning.specs.Search.{pick}
+
+pub le-or-lt : (a b : ℕ) → (a ≤ b) ⊎ (b < a)
+le-or-lt a b = go (leb a b) refl
+  where
+    go : (t : Bool) → leb a b ≡ t → (a ≤ b) ⊎ (b < a)
+    go true e = inl (leb-true a b e)
+    go false e = inr (leb-false a b e)
+
+pub data Order (i p : ℕ) : Type 0 where
+  less : i < p → Order i p
+  same : i ≡ p → Order i p
+  more : p < i → Order i p
+
+pub order : (i p : ℕ) → Order i p
+order i p = ⊎-elim (λ g. ⊎-elim same less (eq-or-lt-of-le g)) more (le-or-lt i p)
+
+-- at most n
+pub place-le : (cut : List ℕ) (n a : ℕ) → placeOf cut n a ≤ n
+unfolding placeOf
+place-le cut zero a = omega arith
+place-le cut (suc k) a = go (leb (getD cut (suc k) 0) a) (place-le cut k a)
+  where
+    go : (t : Bool) → placeOf cut k a ≤ k → pick t (suc k) (placeOf cut k a) ≤ suc k
+    go true ih = omega arith
+    go false ih = omega arith
+
+-- its lower end is at most a
+pub place-from : (cut : List ℕ) (n a : ℕ) → getD cut 0 0 ≤ a → getD cut (placeOf cut n a) 0 ≤ a
+unfolding placeOf
+place-from cut zero a h = h
+place-from cut (suc k) a h = go (leb (getD cut (suc k) 0) a) refl (place-from cut k a h)
+  where
+    go : (t : Bool) → leb (getD cut (suc k) 0) a ≡ t → getD cut (placeOf cut k a) 0 ≤ a → getD cut (pick t (suc k) (placeOf cut k a)) 0 ≤ a
+    go true e ih = leb-true _ _ e
+    go false e ih = ih
+
+-- and no later place's is
+pub place-max : (cut : List ℕ) (n a q : ℕ) → q ≤ n → getD cut q 0 ≤ a → q ≤ placeOf cut n a
+unfolding placeOf
+place-max cut zero a q l h = l
+place-max cut (suc k) a q l h = go (leb (getD cut (suc k) 0) a) refl (λ l′. place-max cut k a q l′ h)
+  where
+    go : (t : Bool) → leb (getD cut (suc k) 0) a ≡ t → (q ≤ k → q ≤ placeOf cut k a) → q ≤ pick t (suc k) (placeOf cut k a)
+    go true e ih = l
+    go false e ih = ⊎-elim (λ (s : q ≡ suc k). omega (arith, ap (λ (i : ℕ). getD cut i 0) s, leb-false (getD cut (suc k) 0) a e)) (λ (s : q < suc k). ih (omega arith)) (eq-or-lt-of-le l)
+
+module _ {top : ℕ} {cut : List ℕ} {n : ℕ} (w : Cuts top cut n) where
+  pub from-zero : (a : ℕ) → getD cut 0 0 ≤ a
+  from-zero a = omega (arith, w .first)
+
+  pub cut-le : (i j : ℕ) → i ≤ j → j ≤ n → getD cut i 0 ≤ getD cut j 0
+  cut-le i j h k = ⊎-elim (λ (e : i ≡ j). omega (arith, ap (λ (x : ℕ). getD cut x 0) e)) (λ (g : i < j). omega (arith, w .up i j g k)) (eq-or-lt-of-le h)
+
+  pub cut-top : (i : ℕ) → i ≤ n → getD cut i 0 ≤ top
+  cut-top i h = omega (arith, cut-le i n h (omega arith), w .last)
+
+  -- a cut above a is past a's place
+  pub place-lt : (a q : ℕ) → q ≤ n → a < getD cut q 0 → placeOf cut n a < q
+  place-lt a q l h =
+      ⊎-elim (λ (g : q ≤ placeOf cut n a). absurd (go (eq-or-lt-of-le g))) (λ (g : placeOf cut n a < q). g) (le-or-lt q (placeOf cut n a))
+    where
+      go : (q ≡ placeOf cut n a) ⊎ (q < placeOf cut n a) → ⊥
+      go (inl e) = omega (arith, ap (λ (i : ℕ). getD cut i 0) e, place-from cut n a (from-zero a))
+      go (inr g) = omega (arith, w .up q (placeOf cut n a) g (place-le cut n a), place-from cut n a (from-zero a))
+
+  -- an address below top lies in its place
+  pub place-holds : (a : ℕ) → a < top → Holds cut n a (placeOf cut n a)
+  place-holds a h = record {
+    within = in-range;
+    from = place-from cut n a (from-zero a);
+    below = ⊎-elim
+        (λ (g : getD cut (placeOf cut n a + 1) 0 ≤ a). omega (arith, place-max cut n a (placeOf cut n a + 1) (omega (arith, in-range)) g))
+        (λ (g : a < getD cut (placeOf cut n a + 1) 0). g)
+        (le-or-lt (getD cut (placeOf cut n a + 1) 0) a);
+  }
+    where
+      in-range : placeOf cut n a < n
+      in-range = place-lt a n (omega arith) (omega (arith, w .last))
+
+  -- and in no other
+  pub holds-place : {a p : ℕ} → Holds cut n a p → p ≡ placeOf cut n a
+  holds-place {a} {p} h =
+      omega (arith, place-max cut n a p (omega (arith, h .within)) (h .from), place-lt a (p + 1) (omega (arith, h .within)) (h .below))

@@ -1,0 +1,170 @@
+-- A state that came from the fresh one by records is sound. Assumes nothing.
+use mathlib.Core.Path.{_≡_, refl, sym, ap, ap₂, _∙_, subst, subst⁻¹}
+use mathlib.Core.Logic.{_⊎_, inl, inr, ⊎-elim, _≢_}
+use mathlib.Core.List.{List, [], _∷_}
+use mathlib.Core.Bool.{Bool, true, false, not, _&&_, _||_, true≢false}
+use mathlib.Core.Option.{Option, none, some}
+use Prim.Native.Nat.{ℕ, zero, suc, _+_, _-_, _*_, _/_, _%_, _^_, _≤_, _<_}
+use native.Mathlib.Nat.{not-suc-le-zero}
+use native.Mathlib.Decide.{ℕ-discrete}
+use native.Mathlib.Omega.{arith}
+use lib.Dec.{leb, ltb, eqb}
+use lib.Pow.{pow-pos}
+use lib.ListN.{length, getD, set, replicate, length-set, length-replicate, List·getD-eq-default, getD-replicate}
+use lib.Seq.{getD-set-same, getD-set-other}
+use borrow.Author.Tests.{ltb-false, leb-false, eqb-true, eqb-false, not-true, not-false, eq-eqb, lt-ltb, ltb-true}
+use Rattle.meaning.specs.declared.Answer.{Answer}
+use Rattle.meaning.specs.declared.Answer.the-variants.{End, Refused}
+use Rattle.meaning.specs.Search.{pick, anyBelow}
+use Rattle.meaning.specs.Hall.{top, zeroes, State, fresh, sourceOf, endOf, linkWord}
+use Rattle.meaning.specs.Rule.{ruleWord, live, linkOf, rank, lower, upper, overlap}
+use Rattle.meaning.specs.Winner.{ruleAt}
+use Rattle.meaning.proofs.Tables.{Cuts, Numbers, Boundary}
+use Rattle.meaning.specs.Atoms.{isCut, splitCut, splitNumber, splitCount, withCut}
+use Rattle.meaning.specs.declared.Record.{Record}
+use Rattle.meaning.specs.declared.Record.the-variants.{Hall as hall, Link as link, Close as close, Insert as insert, Remove as remove, Loop as loop, Fate as fate, Reach as reach, Tally as tally}
+use Rattle.meaning.specs.Records.{isKind, bodyOf, recordOf, phaseOf}
+use Rattle.meaning.specs.Step.{Done, when, ragged, clashes, added, refusal, withRule, inserted, withNodes, withLink, closed, leaves, only, accepted, taken, stepBy, stepOf}
+use Rattle.meaning.specs.Run.{Came, start, more}
+use Rattle.meaning.proofs.Places.{le-or-lt}
+use Rattle.meaning.proofs.Parted.{split-cuts, split-numbers, split-has, split-keeps, split-count, boundary-is}
+use Rattle.meaning.proofs.Constant.{Aligned}
+use Rattle.meaning.proofs.Words.{link-of, rank-of, lower-of, upper-of, live-of, within-top, Sized, Fits, fits}
+
+-- ---- what is kept from record to record
+
+-- what an accepted record keeps, a step keeps
+module _ (ask : Record → Answer) (P : State → Type 0) (m : State) (room : ℕ) (s : List ℕ) where
+  pub step-keeps : ((r : Record) → Fits r → m .phase ≡ phaseOf r → refusal m r ≡ none → P (leaves m r)) → P m → P (stepBy ask m room s .left)
+  unfolding stepBy only taken accepted when
+  step-keeps f p = go (ltb room 2560) (eqb (length s) 0) (not (isKind (getD s 0 0))) (ltb (length s) (1 + bodyOf (getD s 0 0)))
+    where
+      r : Record
+      r = recordOf s
+
+      n : ℕ
+      n = 1 + bodyOf (getD s 0 0)
+
+      last : (e : Bool) (o : Option ℕ) → not (eqb (m .phase) (phaseOf r)) ≡ e → refusal m r ≡ o → P (taken ask m n r (when e 3 o) .left)
+      last true o h g = p
+      last false (some k) h g = p
+      last false none h g = f r (fits s) (eqb-true _ _ (not-false _ h)) g
+
+      go : (a b c d : Bool) → P (pick a (only m 0 (Refused 0)) (pick b (only m 0 End) (pick c (only m 0 (Refused 1)) (pick d (only m 0 (Refused 2))
+          (taken ask m n r (when (not (eqb (m .phase) (phaseOf r))) 3 (refusal m r)))))) .left)
+      go true b c d = p
+      go false true c d = p
+      go false false true d = p
+      go false false false true = p
+      go false false false false = last _ _ refl refl
+
+pub came-keeps : (P : State → Type 0) → P fresh → ((m : State) (r : Record) → P m → Fits r → m .phase ≡ phaseOf r → refusal m r ≡ none → P (leaves m r))
+    → (m : State) → Came m → P m
+unfolding stepOf
+came-keeps P z f m start = z
+came-keeps P z f m (more {m = o} room s c) = let h = came-keeps P z f o c in step-keeps _ P o room s (λ r. f o r h) h
+
+-- ---- sound
+
+pub record Sound (m : State) : Type 0 where
+  pub cuts : Cuts top (m .cut) (m .atoms)
+  pub numbers : Numbers (m .number) (m .atoms)
+  pub rules : length (m .rule) ≡ 256
+  pub aligned : Aligned m
+  pub named : (i : ℕ) → i < 256 → live (ruleAt m i) ≡ true → linkOf (ruleAt m i) < m .links
+  pub distinct : (i j : ℕ) → i < 256 → j < 256 → live (ruleAt m i) ≡ true → live (ruleAt m j) ≡ true
+      → sourceOf m (linkOf (ruleAt m i)) ≡ sourceOf m (linkOf (ruleAt m j)) → rank (ruleAt m i) ≡ rank (ruleAt m j)
+      → overlap (ruleAt m i) (ruleAt m j) ≡ true → i ≡ j
+  pub long : length (m .link) ≡ 64
+  pub few : m .links ≤ 64
+  pub small : m .nodes ≤ 16
+  pub sources : (l : ℕ) → l < m .links → sourceOf m l < m .nodes
+  pub ends : (l : ℕ) → l < m .links → endOf m l < 256 → endOf m l < m .nodes
+  pub unused : (l : ℕ) → m .links ≤ l → getD (m .link) l 0 ≡ 0
+  -- no link before the hall, and no rule before the close
+  pub bare : m .phase ≡ 0 → m .links ≡ 0
+  pub idle : m .phase < 2 → (i : ℕ) → live (ruleAt m i) ≡ false
+
+-- ---- the tests
+
+pub when-none : (t : Bool) (k : ℕ) (o : Option ℕ) → when t k o ≡ none → (t ≡ false) × (o ≡ none)
+unfolding when
+when-none true k o e = let z : _≡_ {A = ℕ} 0 1 = cc in absurd (omega arith)
+when-none false k o e = (refl, e)
+
+pub or-false : (a b : Bool) → (a || b) ≡ false → (a ≡ false) × (b ≡ false)
+or-false true b e = absurd (true≢false e)
+or-false false b e = (refl, e)
+
+pub and-true : (a b : Bool) → a ≡ true → b ≡ true → (a && b) ≡ true
+and-true a b e f = rw (e, f)
+
+pub any-false : (P : ℕ → Bool) (n : ℕ) → anyBelow n P ≡ false → (i : ℕ) → i < n → P i ≡ false
+unfolding anyBelow
+any-false P zero e i l = absurd (not-suc-le-zero l)
+any-false P (suc n) e i l = let h = or-false (anyBelow n P) (P n) e in go (any-false P n (h .0) i) (h .1) (ℕ-discrete i n)
+  where
+    go : (i < n → P i ≡ false) → P n ≡ false → Dec (i ≡ n) → P i ≡ false
+    go f h (yes q) = ap P q ∙ h
+    go f h (no q) = f (omega arith)
+
+and-comm : (a b : Bool) → (a && b) ≡ (b && a)
+and-comm true true = refl
+and-comm true false = refl
+and-comm false true = refl
+and-comm false false = refl
+
+pub overlap-comm : (v w : ℕ) → overlap v w ≡ overlap w v
+unfolding overlap
+overlap-comm v w = and-comm (ltb (lower v) (upper w)) (ltb (lower w) (upper v))
+
+-- ---- the fresh state
+
+length-zeroes : (n : ℕ) → length (zeroes n) ≡ n
+length-zeroes n = length-replicate {A = ℕ} n 0
+
+zeros : (n i : ℕ) → getD (zeroes n) i 0 ≡ 0
+zeros n i =
+    ⊎-elim (λ (g : n ≤ i). List·getD-eq-default (zeroes n) 0 {n = i} (omega (arith, length-zeroes n))) (λ (g : i < n). getD-replicate {A = ℕ} n i 0 0 g) (le-or-lt n i)
+
+fresh-idle : (i : ℕ) → live (ruleAt fresh i) ≡ false
+unfolding live ruleAt fresh
+fresh-idle i = ap (λ (x : ℕ). not (eqb x 0)) (zeros 256 i)
+
+fresh-cuts : Cuts top (fresh .cut) (fresh .atoms)
+unfolding fresh
+fresh-cuts = record {
+  long = length-set (zeroes 513) 1 top ∙ length-zeroes 513;
+  room = omega arith;
+  first = refl;
+  up = λ p q a b. let e : p ≡ 0 = omega arith in let d : q ≡ 1 = omega arith in rw (e, d) (omega arith);
+  last = refl;
+  rest = λ p a. getD-set-other (zeroes 513) 1 p top 0 (λ e. omega arith) ∙ zeros 513 p;
+}
+
+fresh-numbers : Numbers (fresh .number) (fresh .atoms)
+unfolding fresh
+fresh-numbers = record {
+  long = length-zeroes 512;
+  small = λ p a. omega (arith, zeros 512 p);
+  apart = λ p q a b e. omega arith;
+  rest = λ p a. zeros 512 p;
+}
+
+pub fresh-sound : Sound fresh
+fresh-sound = record {
+  cuts = fresh-cuts;
+  numbers = fresh-numbers;
+  rules = unfold fresh in length-zeroes 256;
+  aligned = λ i l e. absurd (true≢false (sym e ∙ fresh-idle i));
+  named = λ i l e. absurd (true≢false (sym e ∙ fresh-idle i));
+  distinct = λ i j a b e. absurd (true≢false (sym e ∙ fresh-idle i));
+  long = unfold fresh in length-zeroes 64;
+  few = unfold fresh in omega arith;
+  small = unfold fresh in omega arith;
+  sources = unfold fresh in λ l h. absurd (not-suc-le-zero h);
+  ends = unfold fresh in λ l h. absurd (not-suc-le-zero h);
+  unused = unfold fresh in λ l h. zeros 64 l;
+  bare = λ e. unfold fresh in refl;
+  idle = λ h. fresh-idle;
+}

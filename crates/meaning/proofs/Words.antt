@@ -1,0 +1,139 @@
+-- Laws of the words: what a rule's and a link's word says, and how large a record's fields are.
+-- Assumes nothing.
+use mathlib.Core.Path.{_≡_, refl, sym, ap, _∙_, subst}
+use mathlib.Core.List.{List, [], _∷_}
+use mathlib.Core.Bool.{Bool, true, false, not}
+use Prim.Native.Nat.{ℕ, zero, suc, _+_, _-_, _*_, _/_, _%_, _^_, _≤_, _<_}
+use native.Mathlib.Nat.{mod-lt, zero-lt-suc, div-add-mod', mul-le-mul-right, lt-of-mul-lt-mul-right, suc-mul, pow-suc, one-mul, mod-eq-of-lt}
+use native.Mathlib.Omega.{arith}
+use lib.Dec.{eqb, leb, ltb}
+use lib.Pow.{pow-pos, pow-add, pow-lt, pow-mono}
+use lib.ListN.{getD}
+use borrow.Author.Tests.{eq-eqb, ne-eqb, le-leb, lt-leb}
+use Rattle.meaning.specs.Rule.{ruleWord, live, linkOf, rank, lower, upper, covers}
+use Rattle.meaning.specs.Hall.{State, sourceOf}
+use Rattle.meaning.specs.Winner.{ruleAt, eligible}
+use Rattle.meaning.specs.declared.Record.{Record}
+use Rattle.meaning.specs.declared.Record.the-variants.{Hall as hall, Link as link, Close as close, Insert as insert, Remove as remove, Loop as loop, Fate as fate, Reach as reach, Tally as tally}
+use Rattle.meaning.specs.Records.{number, recordOf}
+
+module _ (l p n t : ℕ) (hl : l < 64) (hp : p < 2 ^ 32) (hn : n ≤ 32) (ht : t < 2 ^ 16) where
+  pub link-of : linkOf (ruleWord l p n t) ≡ l
+  unfolding linkOf ruleWord
+  link-of = omega arith
+
+  pub rank-of : rank (ruleWord l p n t) ≡ t
+  unfolding rank ruleWord
+  rank-of = omega arith
+
+  pub lower-of : lower (ruleWord l p n t) ≡ p
+  unfolding lower ruleWord
+  lower-of = omega arith
+
+  length-of : ruleWord l p n t / 2 ^ 38 % 64 ≡ n
+  unfolding ruleWord
+  length-of = omega arith
+
+  pub upper-of : upper (ruleWord l p n t) ≡ p + 2 ^ (32 - n)
+  unfolding upper
+  upper-of = rw length-of (ap (λ (x : ℕ). x + 2 ^ (32 - n)) (unfold lower in lower-of))
+
+  pub live-of : live (ruleWord l p n t) ≡ true
+  unfolding live ruleWord
+  live-of = ap not (ne-eqb (ruleWord l p n t) 0 (λ e. omega arith))
+
+-- an aligned prefix ends within the range
+pub within-top : (p n : ℕ) → p < 2 ^ 32 → n ≤ 32 → p % 2 ^ (32 - n) ≡ 0 → p + 2 ^ (32 - n) ≤ 2 ^ 32
+within-top p n hp hn e =
+    let d = 2 ^ (32 - n) in
+    let q = p / d in
+    let whole : 2 ^ 32 ≡ 2 ^ n * d = (let s : n + (32 - n) ≡ 32 = omega arith in sym (ap (λ (x : ℕ). 2 ^ x) s) ∙ pow-add 2 n (32 - n)) in
+    let same : q * d ≡ p = omega (arith, div-add-mod' p d) in
+    let less : q < 2 ^ n = lt-of-mul-lt-mul-right d (omega arith) in
+    omega (arith, mul-le-mul-right d less, suc-mul q d)
+
+-- ---- a record's fields
+
+pub number-lt : (s : List ℕ) (i n : ℕ) → number s i n < 256 ^ n
+unfolding number
+number-lt s i zero = omega arith
+number-lt s i (suc n) = omega (arith, pow-suc 256 n, number-lt s i n, mod-lt (getD s (i + n) 0) (zero-lt-suc 255))
+
+-- the bounds that the sizes of its fields give
+pub record Sized (l p t : ℕ) : Type 0 where
+  pub link : l < 256
+  pub prefix : p < 2 ^ 32
+  pub priority : t < 2 ^ 16
+
+unfoldable pub Fits : Record → Type 0
+Fits (hall n) = Unit {0}
+Fits (link s c e) = e < 256
+Fits close = Unit {0}
+Fits (insert r l p n t) = Sized l p t
+Fits (remove r) = Unit {0}
+Fits loop = Unit {0}
+Fits (fate v a) = Unit {0}
+Fits (reach v w) = Unit {0}
+Fits (tally v) = Unit {0}
+
+pub fits : (s : List ℕ) → Fits (recordOf s)
+unfolding recordOf Fits
+fits s = go (getD s 0 0)
+  where
+    go : (k : ℕ) → Fits (getD
+        (close
+        ∷ hall (number s 1 1)
+        ∷ link (number s 1 1) (number s 2 1) (number s 3 1)
+        ∷ close
+        ∷ insert (number s 1 2) (number s 3 1) (number s 4 4) (number s 8 1) (number s 9 2)
+        ∷ remove (number s 1 2)
+        ∷ loop
+        ∷ fate (number s 1 1) (number s 2 4)
+        ∷ reach (number s 1 1) (number s 2 1)
+        ∷ tally (number s 1 1)
+        ∷ []) k close)
+    go zero = tt
+    go (suc zero) = tt
+    go (suc (suc zero)) = number-lt s 3 1
+    go (suc (suc (suc zero))) = tt
+    go (suc (suc (suc (suc zero)))) = record { link = number-lt s 3 1; prefix = number-lt s 4 4; priority = number-lt s 9 2 }
+    go (suc (suc (suc (suc (suc zero))))) = tt
+    go (suc (suc (suc (suc (suc (suc zero)))))) = tt
+    go (suc (suc (suc (suc (suc (suc (suc zero))))))) = tt
+    go (suc (suc (suc (suc (suc (suc (suc (suc zero)))))))) = tt
+    go (suc (suc (suc (suc (suc (suc (suc (suc (suc zero))))))))) = tt
+    go (suc (suc (suc (suc (suc (suc (suc (suc (suc (suc k)))))))))) = tt
+
+-- ---- for code: `covers` and `eligible` by the tests on the way
+
+shl : (n : ℕ) → 1 * 2 ^ (32 - n) % 2 ^ 64 ≡ 2 ^ (32 - n)
+shl n = ap (λ (x : ℕ). x % 2 ^ 64) (one-mul (2 ^ (32 - n))) ∙ mod-eq-of-lt (pow-lt {i = 32 - n} {j = 64} (omega arith))
+
+pub shl-le : (n : ℕ) → 1 * 2 ^ (32 - n) % 2 ^ 64 ≤ 2 ^ 32
+shl-le n = rw shl (pow-mono {i = 32 - n} {j = 32} (omega arith))
+
+module _ (w a : ℕ) where
+  pub covers-low : a < w % 2 ^ 32 → false ≡ covers w a
+  unfolding covers lower
+  covers-low h = rw (lt-leb (w % 2 ^ 32) a h)
+
+  pub covers-long : w % 2 ^ 32 ≤ a → 32 < w / 2 ^ 38 % 64 → ltb a (w % 2 ^ 32 + 1) ≡ covers w a
+  unfolding covers lower upper
+  covers-long h k = let e : 32 - w / 2 ^ 38 % 64 ≡ 0 = omega arith in rw (le-leb (w % 2 ^ 32) a h, e)
+
+  pub covers-in : w % 2 ^ 32 ≤ a → ltb a (w % 2 ^ 32 + 1 * 2 ^ (32 - w / 2 ^ 38 % 64) % 2 ^ 64) ≡ covers w a
+  unfolding covers lower upper
+  covers-in h = rw (shl, le-leb (w % 2 ^ 32) a h)
+
+module _ (m : State) (v a i w : ℕ) (is : w ≡ ruleAt m i) where
+  pub not-live : w ≡ 0 → false ≡ eligible m v a i
+  unfolding eligible live
+  not-live e = rw (sym is ∙ e)
+
+  pub elsewhere : (w ≡ 0 → ⊥) → (sourceOf m (linkOf w) ≡ v → ⊥) → false ≡ eligible m v a i
+  unfolding eligible live
+  elsewhere n f = rw (← is, ne-eqb w 0 n, ne-eqb (sourceOf m (linkOf w)) v f)
+
+  pub by-cover : (w ≡ 0 → ⊥) → sourceOf m (linkOf w) ≡ v → covers w a ≡ eligible m v a i
+  unfolding eligible live
+  by-cover n f = rw (← is, ne-eqb w 0 n, eq-eqb (sourceOf m (linkOf w)) v f)

@@ -1,0 +1,89 @@
+-- The questions, over addresses: fate, loop, reach and tally. Assumes nothing: these are definitions.
+use mathlib.Core.List.{List}
+use mathlib.Core.Bool.{Bool, true, false}
+use mathlib.Core.Option.{Option, none, some}
+use Prim.Native.Nat.{ℕ, zero, suc, _+_, _-_}
+use lib.ListN.{getD}
+use Rattle.meaning.specs.declared.Record.{Record}
+use Rattle.meaning.specs.declared.Record.the-variants.{Hall as hall, Link as link, Close as close, Insert as insert, Remove as remove, Loop as loop, Fate as fate, Reach as reach, Tally as tally}
+use Rattle.meaning.specs.declared.Answer.{Answer}
+use Rattle.meaning.specs.declared.Answer.the-variants.{Ok, Loop, NoLoop, Went, Yes, No, Tally}
+use Rattle.meaning.specs.declared.Fate.{Fate}
+use Rattle.meaning.specs.declared.Fate.the-variants.{Out, Lost, Round}
+use Rattle.meaning.specs.Search.{pick, orElse, anyBelow, lowestBelow, countBelow}
+use Rattle.meaning.specs.Hall.{top, State, endOf}
+use Rattle.meaning.specs.Winner.{nextAt}
+use Rattle.meaning.specs.Walk.{goesRound, onCircle, comesTo, fateIn}
+
+-- what becomes of a packet to address a at node v
+unfoldable pub fateOf : State → ℕ → ℕ → Fate
+fateOf m v a = fateIn (nextAt m a) (endOf m) (m .nodes) 0 v
+
+-- some node's walk goes round at address a
+unfoldable pub loopsAt : State → ℕ → Bool
+loopsAt m a = anyBelow (m .nodes) (goesRound (nextAt m a) (endOf m) (m .nodes))
+
+-- the lowest node on a circle at address a
+unfoldable pub circleAt : State → ℕ → Option ℕ
+circleAt m a = lowestBelow (m .nodes) (onCircle (nextAt m a) (endOf m) (m .nodes))
+
+unfoldable pub someNode : ℕ → Option ℕ → Answer
+someNode a (some v) = Loop a v
+someNode a none = NoLoop
+
+unfoldable pub loopFrom : State → Option ℕ → Answer
+loopFrom m (some a) = someNode a (circleAt m a)
+loopFrom m none = NoLoop
+
+-- from node v a packet to address a comes to node w
+unfoldable pub reachesAt : State → ℕ → ℕ → ℕ → Bool
+reachesAt m v w a = comesTo (nextAt m a) (endOf m) (m .nodes) v w
+
+unfoldable pub reachFrom : Option ℕ → Answer
+reachFrom (some a) = Yes a
+reachFrom none = No
+
+-- the three fates, each by its own case
+unfoldable pub isOut : Fate → Bool
+isOut (Out l h) = true
+isOut (Lost w h) = false
+isOut Round = false
+
+unfoldable pub isLost : Fate → Bool
+isLost (Out l h) = false
+isLost (Lost w h) = true
+isLost Round = false
+
+unfoldable pub isRound : Fate → Bool
+isRound (Out l h) = false
+isRound (Lost w h) = false
+isRound Round = true
+
+-- the answers, by any way to find the lowest address with P and to count the addresses with P
+module _ (least : (ℕ → Bool) → Option ℕ) (count : (ℕ → Bool) → ℕ) (m : State) where
+  unfoldable pub asked : Record → Answer
+  asked (hall n) = Ok
+  asked (link s c e) = Ok
+  asked close = Ok
+  asked (insert r l p n t) = Ok
+  asked (remove r) = Ok
+  asked loop = loopFrom m (least (loopsAt m))
+  asked (fate v a) = Went (fateOf m v a)
+  asked (reach v w) = reachFrom (least (reachesAt m v w))
+  asked (tally v) = Tally (count (λ a. isOut (fateOf m v a))) (count (λ a. isLost (fateOf m v a))) (count (λ a. isRound (fateOf m v a)))
+
+-- THE MEANING: over all addresses
+unfoldable pub byAddress : State → Record → Answer
+byAddress m = asked (lowestBelow top) (countBelow top) m
+
+-- the same over the places, each by its lower end and its width: what can be computed, and by a law the same
+unfoldable pub leastPlace : List ℕ → ℕ → (ℕ → Bool) → Option ℕ
+leastPlace cut zero P = none
+leastPlace cut (suc p) P = orElse (leastPlace cut p P) (pick (P (getD cut p 0)) (some (getD cut p 0)) none)
+
+unfoldable pub countPlace : List ℕ → ℕ → (ℕ → Bool) → ℕ
+countPlace cut zero P = 0
+countPlace cut (suc p) P = countPlace cut p P + pick (P (getD cut p 0)) (getD cut (suc p) 0 - getD cut p 0) 0
+
+unfoldable pub byPlace : State → Record → Answer
+byPlace m = asked (leastPlace (m .cut) (m .atoms)) (countPlace (m .cut) (m .atoms)) m

@@ -1,0 +1,51 @@
+-- The records: one byte of kind, then a body whose length the kind fixes, with its fields in order; and the order of the records.
+-- s are the bytes from the record's first on. Assumes nothing: these are definitions.
+use mathlib.Core.List.{List, [], _∷_}
+use mathlib.Core.Bool.{Bool, _&&_}
+use Prim.Native.Nat.{ℕ, zero, suc, _+_, _*_, _%_}
+use lib.Dec.{leb, ltb}
+use lib.ListN.{getD}
+use Rattle.meaning.specs.declared.Record.{Record}
+use Rattle.meaning.specs.declared.Record.the-variants.{Hall as hall, Link as link, Close as close, Insert as insert, Remove as remove, Loop as loop, Fate as fate, Reach as reach, Tally as tally}
+
+-- the number in n bytes from byte i on, the highest byte first
+unfoldable pub number : List ℕ → ℕ → ℕ → ℕ
+number s i zero = 0
+number s i (suc n) = number s i n * 256 + getD s (i + n) 0 % 256
+
+unfoldable pub isKind : ℕ → Bool
+isKind k = ltb 0 k && leb k 9
+
+-- how many bytes the body of kind k has
+unfoldable pub bodyOf : ℕ → ℕ
+bodyOf k = getD (0 ∷ 1 ∷ 3 ∷ 0 ∷ 10 ∷ 2 ∷ 0 ∷ 5 ∷ 2 ∷ 1 ∷ []) k 0
+
+-- the record that s begins with, by its kind
+unfoldable pub recordOf : List ℕ → Record
+recordOf s =
+    getD
+    (close
+    ∷ hall (number s 1 1)
+    ∷ link (number s 1 1) (number s 2 1) (number s 3 1)
+    ∷ close
+    ∷ insert (number s 1 2) (number s 3 1) (number s 4 4) (number s 8 1) (number s 9 2)
+    ∷ remove (number s 1 2)
+    ∷ loop
+    ∷ fate (number s 1 1) (number s 2 4)
+    ∷ reach (number s 1 1) (number s 2 1)
+    ∷ tally (number s 1 1)
+    ∷ [])
+    (getD s 0 0)
+    close
+
+-- the phase that a record belongs in: one hall, then links, then one close, then every other kind
+unfoldable pub phaseOf : Record → ℕ
+phaseOf (hall n) = 0
+phaseOf (link s c e) = 1
+phaseOf close = 1
+phaseOf (insert r l p n t) = 2
+phaseOf (remove r) = 2
+phaseOf loop = 2
+phaseOf (fate v a) = 2
+phaseOf (reach v w) = 2
+phaseOf (tally v) = 2
