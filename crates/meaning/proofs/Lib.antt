@@ -17,3 +17,4 @@ pub mod Ranks
 pub mod Means
 pub mod Ends
 pub mod Exchange
+pub mod Owners

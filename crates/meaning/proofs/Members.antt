@@ -17,14 +17,7 @@ use Rattle.meaning.specs.Hall.{State, sourceOf}
 use Rattle.meaning.specs.Winner.{nextAt}
 use Rattle.meaning.proofs.Tables.{Numbers}
 use Rattle.meaning.proofs.Places.{Order, less, same, more, order}
-use Rattle.meaning.specs.Labels.{names, isOn, wordOf, labelsOf}
-
--- bit j of w, lowest first: 0 or 1; and whether atom k is on link l, by the words
-abbrev pub bit : ℕ → ℕ → ℕ
-bit w j = w / 2 ^ j % 2
-
-abbrev pub on : List ℕ → ℕ → ℕ → Bool
-on ws l k = eqb (bit (getD ws (8 * l + k / 64) 0) (k % 64)) 1
+use Rattle.meaning.specs.Labels.{bit, on, names, isOn, wordOf, labelsOf}
 
 pub word-lt : (n : ℕ) (f : ℕ → Bool) → wordOf n f < 2 ^ n
 unfolding wordOf

@@ -10,7 +10,7 @@ use lib.Dec.{eqb, leb, ltb}
 use lib.Pow.{pow-pos, pow-add, pow-lt, pow-mono}
 use lib.ListN.{getD}
 use borrow.Author.Tests.{eq-eqb, ne-eqb, le-leb, lt-leb}
-use Rattle.meaning.specs.Rule.{ruleWord, live, linkOf, rank, lower, upper, covers}
+use Rattle.meaning.specs.Rule.{lengthOf, ruleWord, live, linkOf, rank, lower, upper, covers}
 use Rattle.meaning.specs.Hall.{State, sourceOf}
 use Rattle.meaning.specs.Winner.{ruleAt, eligible}
 use Rattle.meaning.specs.declared.Record.{Record}
@@ -30,13 +30,17 @@ module _ (l p n t : ℕ) (hl : l < 64) (hp : p < 2 ^ 32) (hn : n ≤ 32) (ht : t
   unfolding lower ruleWord
   lower-of = omega arith
 
-  length-of : ruleWord l p n t / 2 ^ 38 % 64 ≡ n
+  free-of : ruleWord l p n t / 2 ^ 38 % 64 ≡ 32 - n
   unfolding ruleWord
-  length-of = omega arith
+  free-of = omega arith
+
+  pub length-of : lengthOf (ruleWord l p n t) ≡ n
+  unfolding lengthOf
+  length-of = rw free-of (omega arith)
 
   pub upper-of : upper (ruleWord l p n t) ≡ p + 2 ^ (32 - n)
   unfolding upper
-  upper-of = rw length-of (ap (λ (x : ℕ). x + 2 ^ (32 - n)) (unfold lower in lower-of))
+  upper-of = rw free-of (ap (λ (x : ℕ). x + 2 ^ (32 - n)) (unfold lower in lower-of))
 
   pub live-of : live (ruleWord l p n t) ≡ true
   unfolding live ruleWord
@@ -106,24 +110,18 @@ fits s = go (getD s 0 0)
 
 -- ---- for code: `covers` and `eligible` by the tests on the way
 
-shl : (n : ℕ) → 1 * 2 ^ (32 - n) % 2 ^ 64 ≡ 2 ^ (32 - n)
-shl n = ap (λ (x : ℕ). x % 2 ^ 64) (one-mul (2 ^ (32 - n))) ∙ mod-eq-of-lt (pow-lt {i = 32 - n} {j = 64} (omega arith))
-
-pub shl-le : (n : ℕ) → 1 * 2 ^ (32 - n) % 2 ^ 64 ≤ 2 ^ 32
-shl-le n = rw shl (pow-mono {i = 32 - n} {j = 32} (omega arith))
+-- a one shifted by some of the 64 places
+pub shl : (n : ℕ) → 1 * 2 ^ (n % 64) % 2 ^ 64 ≡ 2 ^ (n % 64)
+shl n = ap (λ (x : ℕ). x % 2 ^ 64) (one-mul (2 ^ (n % 64))) ∙ mod-eq-of-lt (pow-lt {i = n % 64} {j = 64} (mod-lt n (zero-lt-suc 63)))
 
 module _ (w a : ℕ) where
-  pub covers-low : a < w % 2 ^ 32 → false ≡ covers w a
-  unfolding covers lower
-  covers-low h = rw (lt-leb (w % 2 ^ 32) a h)
+  pub covers-low : a < lower w → false ≡ covers w a
+  unfolding covers
+  covers-low h = rw (lt-leb (lower w) a h)
 
-  pub covers-long : w % 2 ^ 32 ≤ a → 32 < w / 2 ^ 38 % 64 → ltb a (w % 2 ^ 32 + 1) ≡ covers w a
-  unfolding covers lower upper
-  covers-long h k = let e : 32 - w / 2 ^ 38 % 64 ≡ 0 = omega arith in rw (le-leb (w % 2 ^ 32) a h, e)
-
-  pub covers-in : w % 2 ^ 32 ≤ a → ltb a (w % 2 ^ 32 + 1 * 2 ^ (32 - w / 2 ^ 38 % 64) % 2 ^ 64) ≡ covers w a
-  unfolding covers lower upper
-  covers-in h = rw (shl, le-leb (w % 2 ^ 32) a h)
+  pub covers-in : lower w ≤ a → ltb a (upper w) ≡ covers w a
+  unfolding covers
+  covers-in h = rw (le-leb (lower w) a h)
 
 module _ (m : State) (v a i w : ℕ) (is : w ≡ ruleAt m i) where
   pub not-live : w ≡ 0 → false ≡ eligible m v a i

@@ -3,6 +3,8 @@
 use mathlib.Core.List.{List}
 use Prim.Native.Nat.{ℕ, _+_, _*_, _/_, _%_, _^_}
 use lib.ListN.{getD, set, replicate}
+use Rattle.meaning.specs.declared.End.{End}
+use Rattle.meaning.specs.declared.End.the-variants.{Node, Port, Drop}
 
 -- the end of the address range: there are so many addresses, and this is the highest upper end
 abbrev pub top : ℕ
@@ -36,7 +38,13 @@ fresh = record {
   number = zeroes 512;
 }
 
--- a link's word, by its source and its end: a node by its number, a port p by 256 + p, the drop by 512
+-- an end's number: a node by its own, a port p by 256 + p, the drop by 512
+unfoldable pub endNumber : End → ℕ
+endNumber (Node v) = v
+endNumber (Port p) = 256 + p
+endNumber Drop = 512
+
+-- a link's word, by its source and its end's number
 unfoldable pub linkWord : ℕ → ℕ → ℕ
 linkWord source end = source * 1024 + end
 
@@ -44,6 +52,6 @@ linkWord source end = source * 1024 + end
 unfoldable pub sourceOf : State → ℕ → ℕ
 sourceOf m l = getD (m .link) l 0 / 1024
 
--- the end of link l
+-- the number of the end of link l
 unfoldable pub endOf : State → ℕ → ℕ
 endOf m l = getD (m .link) l 0 % 1024

@@ -3,7 +3,7 @@
 use mathlib.Core.List.{List}
 use mathlib.Core.Bool.{Bool, false, _&&_}
 use mathlib.Core.Option.{Option, none, some}
-use Prim.Native.Nat.{ℕ, zero, suc, _+_, _*_, _/_, _%_}
+use Prim.Native.Nat.{ℕ, zero, suc, _+_, _*_, _/_, _%_, _^_}
 use lib.Dec.{ltb, eqb}
 use lib.ListN.{getD}
 use Rattle.meaning.specs.Search.{pick, anyBelow, lowestBelow, countBelow, tabulate}
@@ -28,12 +28,20 @@ wordOf (suc n) f = pick (f 0) 1 0 + 2 * wordOf n (λ j. f (suc j))
 unfoldable pub labelsOf : State → List ℕ
 labelsOf m = tabulate 512 0 (λ i. wordOf 64 (λ j. isOn m (i / 8) (64 * (i % 8) + j)))
 
--- how many atoms link l has, and the lowest-numbered one, asked of its label
-unfoldable pub howMany : State → ℕ → ℕ
-howMany m l = countBelow 512 (isOn m l)
+-- bit j of the word w, the lowest first
+abbrev pub bit : ℕ → ℕ → ℕ
+bit w j = w / 2 ^ j % 2
 
-unfoldable pub lowestOn : State → ℕ → Option ℕ
-lowestOn m l = lowestBelow 512 (isOn m l)
+-- atom k is on link l, asked of the words of a label table
+abbrev pub on : List ℕ → ℕ → ℕ → Bool
+on label l k = eqb (bit (getD label (8 * l + k / 64) 0) (k % 64)) 1
+
+-- how many atoms link l has, and the lowest-numbered one, asked of its label; there are no links but 64
+unfoldable pub howMany : List ℕ → ℕ → ℕ
+howMany label l = pick (ltb l 64) (countBelow 512 (on label l)) 0
+
+unfoldable pub lowestOn : List ℕ → ℕ → Option ℕ
+lowestOn label l = pick (ltb l 64) (lowestBelow 512 (on label l)) none
 
 -- rule w as an owner, 0 for none: its link, then its number, counted from 1
 unfoldable pub ownerWord : State → ℕ → ℕ

@@ -1,10 +1,13 @@
 -- The records: one byte of kind, then a body whose length the kind fixes, with its fields in order; and the order of the records.
 -- s are the bytes from the record's first on. Assumes nothing: these are definitions.
 use mathlib.Core.List.{List, [], _∷_}
-use mathlib.Core.Bool.{Bool, _&&_}
+use mathlib.Core.Bool.{Bool, _&&_, not}
 use Prim.Native.Nat.{ℕ, zero, suc, _+_, _*_, _%_}
-use lib.Dec.{leb, ltb}
-use lib.ListN.{getD}
+use lib.Dec.{leb, ltb, eqb}
+use lib.ListN.{length, getD}
+use Rattle.meaning.specs.Search.{pick}
+use Rattle.meaning.specs.declared.Read.{Read}
+use Rattle.meaning.specs.declared.Read.the-variants.{End, Refused, Got}
 use Rattle.meaning.specs.declared.Record.{Record}
 use Rattle.meaning.specs.declared.Record.the-variants.{Hall as hall, Link as link, Close as close, Insert as insert, Remove as remove, Loop as loop, Fate as fate, Reach as reach, Tally as tally}
 
@@ -37,6 +40,13 @@ recordOf s =
     ∷ [])
     (getD s 0 0)
     close
+
+-- what s begins with: nothing, a kind that is unknown (1) or a body that is cut off (2), or a record and its length
+unfoldable pub readOf : List ℕ → Read
+readOf s =
+    pick (eqb (length s) 0) End
+    (pick (not (isKind (getD s 0 0))) (Refused 1)
+    (pick (ltb (length s) (1 + bodyOf (getD s 0 0))) (Refused 2) (Got (recordOf s) (1 + bodyOf (getD s 0 0)))))
 
 -- the phase that a record belongs in: one hall, then links, then one close, then every other kind
 unfoldable pub phaseOf : Record → ℕ

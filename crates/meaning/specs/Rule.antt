@@ -4,9 +4,13 @@ use mathlib.Core.Bool.{Bool, _&&_, not}
 use Prim.Native.Nat.{ℕ, _+_, _-_, _*_, _/_, _%_, _^_}
 use lib.Dec.{leb, ltb, eqb}
 
--- a live rule's word is never 0; the word of a number that is not live is 0
+-- of addresses of a width in bits, how many a prefix of a length covers
+abbrev pub span : ℕ → ℕ → ℕ
+span width length = 2 ^ (width - length)
+
+-- a live rule's word is never 0, and a number that is not live has the word 0. The word holds how many bits the length leaves free
 unfoldable pub ruleWord : ℕ → ℕ → ℕ → ℕ → ℕ
-ruleWord link prefix length priority = 2 ^ 60 + priority * 2 ^ 44 + length * 2 ^ 38 + link * 2 ^ 32 + prefix
+ruleWord link prefix length priority = 2 ^ 60 + priority * 2 ^ 44 + (32 - length) * 2 ^ 38 + link * 2 ^ 32 + prefix
 
 unfoldable pub live : ℕ → Bool
 live w = not (eqb w 0)
@@ -15,22 +19,18 @@ unfoldable pub linkOf : ℕ → ℕ
 linkOf w = w / 2 ^ 32 % 64
 
 unfoldable pub lengthOf : ℕ → ℕ
-lengthOf w = w / 2 ^ 38 % 64
+lengthOf w = 32 - w / 2 ^ 38 % 64
 
 -- what decides between two rules: the priority
 unfoldable pub rank : ℕ → ℕ
 rank w = w / 2 ^ 44 % 2 ^ 16
-
--- of addresses of a width in bits, how many a prefix of a length covers
-abbrev pub span : ℕ → ℕ → ℕ
-span width length = 2 ^ (width - length)
 
 -- a rule covers the addresses from its lower end up to, and not with, its upper end
 unfoldable pub lower : ℕ → ℕ
 lower w = w % 2 ^ 32
 
 unfoldable pub upper : ℕ → ℕ
-upper w = w % 2 ^ 32 + span 32 (w / 2 ^ 38 % 64)
+upper w = w % 2 ^ 32 + 2 ^ (w / 2 ^ 38 % 64)
 
 unfoldable pub covers : ℕ → ℕ → Bool
 covers w a = leb (lower w) a && ltb a (upper w)

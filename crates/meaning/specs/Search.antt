@@ -4,6 +4,8 @@ use mathlib.Core.Bool.{Bool, true, false, _||_}
 use mathlib.Core.List.{List, [], _∷_}
 use mathlib.Core.Option.{Option, none, some}
 use Prim.Native.Nat.{ℕ, zero, suc, _+_}
+use Rattle.meaning.specs.declared.Found.{Found}
+use Rattle.meaning.specs.declared.Found.the-variants.{At, Nothing}
 
 -- the first where the test holds, else the second
 abbrev pub pick {ℓ} : {A : Type ℓ} → Bool → A → A → A
@@ -24,6 +26,11 @@ anyBelow (suc n) P = anyBelow n P || P n
 unfoldable pub lowestBelow : ℕ → (ℕ → Bool) → Option ℕ
 lowestBelow zero P = none
 lowestBelow (suc n) P = orElse (lowestBelow n P) (pick (P n) (some n) none)
+
+-- what was found, as such a number
+unfoldable pub found : Found → Option ℕ
+found (At i) = some i
+found Nothing = none
 
 -- how many numbers below n have P
 unfoldable pub countBelow : ℕ → (ℕ → Bool) → ℕ

@@ -8,6 +8,8 @@ use lib.Dec.{leb, ltb, eqb}
 use lib.ListN.{length, getD, set}
 use Rattle.meaning.specs.declared.Record.{Record}
 use Rattle.meaning.specs.declared.Record.the-variants.{Hall as hall, Link as link, Close as close, Insert as insert, Remove as remove, Loop as loop, Fate as fate, Reach as reach, Tally as tally}
+use Rattle.meaning.specs.declared.Check.{Check}
+use Rattle.meaning.specs.declared.Check.the-variants.{Passed, Refused as Turned}
 use Rattle.meaning.specs.declared.Answer.{Answer}
 use Rattle.meaning.specs.declared.Answer.the-variants.{End, Refused, Ok, Changed}
 use Rattle.meaning.specs.Search.{pick, anyBelow}
@@ -62,6 +64,11 @@ refusal m loop = none
 refusal m (fate v a) = when (leb (m .nodes) v) 4 none
 refusal m (reach v w) = when (leb (m .nodes) v) 4 (when (leb (m .nodes) w) 4 none)
 refusal m (tally v) = when (leb (m .nodes) v) 4 none
+
+-- a check's outcome as such a number
+unfoldable pub checked : Check → Option ℕ
+checked Passed = none
+checked (Turned k) = some k
 
 -- ---- what an accepted record leaves
 

@@ -41,3 +41,57 @@ pub struct Hall {
     pub links: u8,
     pub atoms: u16,
 }
+
+// Where a link ends.
+pub enum End {
+    Node(u8),
+    Port(u8),
+    Drop,
+}
+
+// A rule's parts beside its number.
+pub struct Rule {
+    pub link: u8,
+    pub prefix: u32,
+    pub length: u8,
+    pub priority: u16,
+}
+
+// What the bytes from a place on begin with: no record, for want of bytes or by a refusal; or a record, with how many bytes it has.
+pub enum Read {
+    End,
+    Refused(u8),
+    Got(Record, usize),
+}
+
+// What a record's own checks say.
+pub enum Check {
+    Passed,
+    Refused(u8),
+}
+
+// A number that was looked for.
+pub enum Found {
+    At(usize),
+    Nothing,
+}
+
+// What a step returns: the answer, how many bytes it went past, and what the hall keeps by value.
+pub struct Step {
+    pub answer: Answer,
+    pub passed: usize,
+    pub hall: Hall,
+}
+
+// What a run over a whole stream returns: how many records it went past, the answer that it stopped at, and what the hall keeps by value.
+pub struct Ran {
+    pub past: usize,
+    pub stopped: Answer,
+    pub hall: Hall,
+}
+
+// What an accepted insert or remove returns: what the hall keeps by value, and how many entries it wrote to the change list.
+pub struct Updated {
+    pub hall: Hall,
+    pub listed: u16,
+}

@@ -1,0 +1,30 @@
+-- Rules by their words: those that stand at a node, those that tie, and the best among gathered ones. Assumes nothing: these are definitions.
+use mathlib.Core.Path.{_≡_}
+use mathlib.Core.Bool.{Bool, true, _&&_}
+use mathlib.Core.List.{List}
+use Prim.Native.Nat.{ℕ, zero, suc, _/_, _<_, _≤_}
+use lib.Dec.{eqb}
+use lib.ListN.{getD}
+use Rattle.meaning.specs.Rule.{live, linkOf, rank, overlap}
+use Rattle.meaning.specs.Winner.{better}
+
+-- the word x is of a live rule at node v
+unfoldable pub standing : List ℕ → ℕ → ℕ → Bool
+standing link v x = live x && eqb (getD link (linkOf x) 0 / 1024) v
+
+-- the word x is of a live rule at node v that overlaps with w and has the same rank
+unfoldable pub tying : List ℕ → ℕ → ℕ → ℕ → Bool
+tying link v w x = live x && (eqb (getD link (linkOf x) 0 / 1024) v && (eqb (rank x) (rank w) && overlap x w))
+
+-- the numbers in `among`, count of them, are those of the live rules at node v that overlap with w
+pub record Gathers (link rule : List ℕ) (v w : ℕ) (among : List ℕ) (count : ℕ) : Type 0 where
+  pub few : count ≤ 256
+  pub within : (j : ℕ) → j < count → getD among j 0 < 256
+  pub each : (j : ℕ) → j < count → standing link v (getD rule (getD among j 0) 0) ≡ true
+  pub all : (i : ℕ) → i < 256 → standing link v (getD rule i 0) ≡ true → overlap (getD rule i 0) w ≡ true
+      → (j : ℕ) × (j < count) × (getD among j 0 ≡ i)
+
+-- the one of the highest rank among the first gathered that have E, or 256
+unfoldable pub bestIn : (ℕ → Bool) → (ℕ → ℕ) → List ℕ → ℕ → ℕ
+bestIn E r among zero = 256
+bestIn E r among (suc j) = better E r (bestIn E r among j) (getD among j 0)

@@ -1,0 +1,95 @@
+// Labels: 512 words, link l's at 8 l to 8 l + 7, and atom k the bit k % 64 of the word k / 64 of these.
+use meaning::Found;
+ghost use mathlib.Core.Path.{_≡_};
+ghost use mathlib.Core.Bool.{_||_, _&&_, not};
+ghost use mathlib.Core.Option.{none};
+ghost use Prim.Native.Nat.{ℕ, _<_, _≤_};
+ghost use lib.Dec.{eqb};
+ghost use Rattle.meaning.specs.Search.{pick, found};
+ghost use Rattle.meaning.specs.Labels.{on, howMany, lowestOn};
+ghost use Rattle.meaning.proofs.Owners.{Words};
+ghost use Rattle.hall.specs.Bits.{Put, TakenOff, Moved};
+
+// What the type of a label table says of its list: for callers' proofs.
+pub fn known(label: &[u64; 512])
+    ensures { λ r. ⌜ Words (now (label .entry)) ⌝ }
+{
+    let s: &[u64] = label;
+    let w = s[0];
+}
+
+// Whether an atom is on a link.
+pub fn has(label: &[u64; 512], link: usize, atom: usize) -> bool
+    requires { ⌜ (link < 64) × (atom < 512) ⌝ }
+    ensures { λ r. ⌜ r ≡ on (now (label .entry)) link atom ⌝ }
+{
+    let w = label[8 * link + atom / 64];
+    (w >> (atom % 64)) % 2 == 1
+}
+
+// Puts an atom on a link.
+pub fn put(label: &mut [u64; 512], link: usize, atom: usize)
+    requires { ⌜ (link < 64) × (atom < 512) ⌝ }
+    ensures { λ r. ⌜ Put (now (label .entry)) (now (label .exit)) link atom ⌝ }
+{
+    let s: &mut [u64] = label;
+    s[8 * link + atom / 64] |= 1u64 << (atom % 64);
+}
+
+// Takes an atom off a link.
+pub fn take_off(label: &mut [u64; 512], link: usize, atom: usize)
+    requires { ⌜ (link < 64) × (atom < 512) ⌝ }
+    ensures { λ r. ⌜ TakenOff (now (label .entry)) (now (label .exit)) link atom ⌝ }
+{
+    let s: &mut [u64] = label;
+    s[8 * link + atom / 64] &= !(1u64 << (atom % 64));
+}
+
+// Moves an atom from the link old to the link new, where each may be 64 for none.
+pub fn move_atom(label: &mut [u64; 512], old: usize, new: usize, atom: usize)
+    requires { ⌜ (old ≤ 64) × (new ≤ 64) × (atom < 512) ⌝ }
+    ensures { λ r. ⌜ Moved (now (label .entry)) (now (label .exit)) old new atom ⌝ }
+{
+    if old < 64 {
+        take_off(label, old, atom);
+    }
+    if new < 64 {
+        put(label, new, atom);
+    }
+}
+
+// How many atoms are on a link.
+pub fn atoms_on(label: &[u64; 512], link: usize) -> u32
+    ensures { λ r. ⌜ r ≡ howMany (now (label .entry)) link ⌝ }
+{
+    if 64 <= link {
+        return 0;
+    }
+    let s: &[u64] = label;
+    let mut n = 0u32;
+    let mut i = 0usize;
+    while i < 8 {
+        n += u64::count_ones(s[8 * link + i]);
+        i += 1;
+    }
+    n
+}
+
+// The lowest-numbered atom on a link.
+pub fn lowest_on(label: &[u64; 512], link: usize) -> Found
+    ensures { λ r. ⌜ found r ≡ lowestOn (now (label .entry)) link ⌝ }
+{
+    if 64 <= link {
+        return Found::Nothing;
+    }
+    let mut i: usize = 0;
+    while i < 8 {
+        let w = label[8 * link + i];
+        let t = u64::trailing_zeros(w) as usize;
+        if t < 64 {
+            return Found::At(64 * i + t);
+        }
+        i += 1;
+    }
+    Found::Nothing
+}

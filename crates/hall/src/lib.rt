@@ -1,0 +1,9 @@
+// The box: it reads records, keeps rules, atoms and labels in lent tables, and answers.
+mod atom;
+mod label;
+mod link;
+mod rule;
+mod update;
+
+pub use label::atoms_on;
+pub use label::lowest_on;

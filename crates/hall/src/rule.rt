@@ -1,0 +1,167 @@
+// Rules: a rule's word and its parts, the tie check, and the winner among gathered rules.
+use meaning::Rule;
+ghost use mathlib.Core.Path.{_≡_};
+ghost use mathlib.Core.Bool.{_&&_};
+ghost use mathlib.Core.List.{List};
+ghost use Prim.Native.Nat.{ℕ, _+_, _-_, _*_, _/_, _%_, _^_, _<_, _≤_};
+ghost use lib.Dec.{eqb};
+ghost use lib.ListN.{length, getD};
+ghost use Rattle.meaning.specs.Search.{anyBelow};
+ghost use Rattle.meaning.specs.Rule.{ruleWord, live, linkOf, lengthOf, rank as rankOf, lower, upper, covers, overlap};
+ghost use Rattle.meaning.specs.Winner.{better};
+ghost use Rattle.hall.specs.Gathered.{bestIn, Gathers, standing, tying};
+
+// The word of a rule.
+pub fn pack(r: Rule) -> u64
+    requires { ⌜ (r .link < 64) × (r .length ≤ 32) ⌝ }
+    ensures { λ w. ⌜ w ≡ ruleWord (r .link) (r .prefix) (r .length) (r .priority) ⌝ }
+{
+    let free = 32 - r.length as u64;
+    let head = 1152921504606846976 + r.priority as u64 * 17592186044416 + free * 274877906944;
+    head + r.link as u64 * 4294967296 + r.prefix as u64
+}
+
+// The parts of a rule's word.
+pub fn unpack(w: u64) -> Rule
+    ensures { λ r. ⌜ (r .link ≡ linkOf w) × (r .prefix ≡ lower w) × (r .length ≡ lengthOf w) × (r .priority ≡ rankOf w) ⌝ }
+{
+    let free = (w / 274877906944 % 64) as u8;
+    Rule {
+        link: (w / 4294967296 % 64) as u8,
+        prefix: (w % 4294967296) as u32,
+        length: if 32 < free { 0 } else { 32 - free },
+        priority: (w / 17592186044416 % 65536) as u16,
+    }
+}
+
+pub fn link_of(w: u64) -> usize
+    ensures { λ r. ⌜ (r ≡ linkOf w) × (r < 64) ⌝ }
+{
+    (w / 4294967296 % 64) as usize
+}
+
+pub fn rank_of(w: u64) -> u64
+    ensures { λ r. ⌜ (r ≡ rankOf w) × (r < 65536) ⌝ }
+{
+    w / 17592186044416 % 65536
+}
+
+pub fn lower_of(w: u64) -> u64
+    ensures { λ r. ⌜ (r ≡ lower w) × (r < 2 ^ 32) ⌝ }
+{
+    w % 4294967296
+}
+
+pub fn upper_of(w: u64) -> u64
+    ensures { λ r. ⌜ (r ≡ upper w) × (r < 2 ^ 64) ⌝ }
+{
+    w % 4294967296 + (1u64 << (w / 274877906944 % 64))
+}
+
+// Whether x is a live rule at node v.
+pub fn stands_at(link: &[u16; 64], v: usize, x: u64) -> bool
+    ensures { λ r. ⌜ r ≡ standing (now (link .entry)) v x ⌝ }
+{
+    if x == 0 {
+        return false;
+    }
+    let word = link[link_of(x)];
+    (word / 1024) as usize == v
+}
+
+// Whether x and w cover an address both.
+pub fn overlaps(x: u64, w: u64) -> bool
+    ensures { λ r. ⌜ r ≡ overlap x w ⌝ }
+{
+    if lower_of(x) < upper_of(w) {
+        return lower_of(w) < upper_of(x);
+    }
+    false
+}
+
+// Whether x is a live rule at node v that overlaps with w and has the same rank.
+fn ties_with(link: &[u16; 64], v: usize, w: u64, x: u64) -> bool
+    ensures { λ r. ⌜ r ≡ tying (now (link .entry)) v w x ⌝ }
+{
+    if rank_of(x) != rank_of(w) {
+        return false;
+    }
+    if stands_at(link, v, x) {
+        return overlaps(x, w);
+    }
+    false
+}
+
+// Whether a live rule at node v overlaps with w and has the same rank.
+pub fn ties(link: &[u16; 64], rule: &[u64; 256], v: usize, w: u64) -> bool
+    ensures { λ r. ⌜ r ≡ anyBelow 256 (λ i. tying (now (link .entry)) v w (getD (now (rule .entry)) i 0)) ⌝ }
+{
+    let mut i: usize = 0;
+    while i < 256 {
+        if ties_with(link, v, w, rule[i]) {
+            return true;
+        }
+        i += 1;
+    }
+    false
+}
+
+// Gathers the numbers of the live rules at node v that overlap with w, and returns how many there are.
+pub fn gather(
+    link: &[u16; 64],
+    rule: &[u64; 256],
+    v: usize,
+    w: u64,
+    among: &mut [u16; 256],
+) -> usize
+    ensures { λ r. ⌜ Gathers (now (link .entry)) (now (rule .entry)) v w (now (among .exit)) r ⌝ }
+{
+    let mut count: usize = 0;
+    let mut i: usize = 0;
+    while i < 256 {
+        let x = rule[i];
+        if stands_at(link, v, x) {
+            if overlaps(x, w) {
+                among[count] = i as u16;
+                count += 1;
+            }
+        }
+        i += 1;
+    }
+    count
+}
+
+// Of the best so far and rule i, the better for address a: i where it covers a and there is none yet, or one of lower rank.
+fn better_of(rule: &[u64; 256], a: u64, best: usize, i: usize) -> usize
+    requires { ⌜ (i < 256) × (best ≤ 256) ⌝ }
+    ensures { λ r. ⌜ (r ≡ better (λ k. covers (getD (now (rule .entry)) k 0) a) (λ k. rankOf (getD (now (rule .entry)) k 0)) best i) × (r ≤ 256) ⌝ }
+{
+    let x = rule[i];
+    if a < lower_of(x) {
+        return best;
+    }
+    if upper_of(x) <= a {
+        return best;
+    }
+    if best == 256 {
+        return i;
+    }
+    if rank_of(rule[best]) < rank_of(x) {
+        return i;
+    }
+    best
+}
+
+// The best for address a of the first gathered rules, or 256 for none.
+pub fn best_among(rule: &[u64; 256], among: &[u16; 256], count: usize, a: u64) -> usize
+    requires { ⌜ (count ≤ 256) × ((j : ℕ) → j < count → getD (now among) j 0 < 256) ⌝ }
+    ensures { λ r. ⌜ (r ≡ bestIn (λ k. covers (getD (now (rule .entry)) k 0) a) (λ k. rankOf (getD (now (rule .entry)) k 0)) (now (among .entry)) count) × (r ≤ 256) ⌝ }
+{
+    let mut best: usize = 256;
+    let mut j: usize = 0;
+    while j < count {
+        best = better_of(rule, a, best, among[j] as usize);
+        j += 1;
+    }
+    best
+}
