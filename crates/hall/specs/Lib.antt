@@ -3,3 +3,4 @@ pub mod Bits
 pub mod Gathered
 pub mod Rows
 pub mod Sweep
+pub mod Moves

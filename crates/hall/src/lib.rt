@@ -1,9 +1,11 @@
 // The box: it reads records, keeps rules, atoms and labels in lent tables, and answers.
+mod ask;
 mod atom;
 mod label;
 mod link;
 mod rule;
 mod update;
+mod walk;
 
 pub use label::atoms_on;
 pub use label::lowest_on;
