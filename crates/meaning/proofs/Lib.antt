@@ -18,5 +18,7 @@ pub mod Means
 pub mod Ends
 pub mod Exchange
 pub mod Owners
+pub mod Bits
+pub mod LabelWords
 pub mod Numbered
 pub mod Labelled
