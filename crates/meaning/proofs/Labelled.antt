@@ -1,7 +1,7 @@
 -- The owners and the labels entry by entry are those of the state, and what they say of the walk. Assumes nothing.
 use mathlib.Core.Path.{_≡_, refl, sym, ap, ap₂, _∙_, fun-ext}
 use mathlib.Core.Logic.{_⊎_, inl, inr}
-use mathlib.Core.Bool.{Bool, true, false}
+use mathlib.Core.Bool.{Bool, true, false, _&&_}
 use mathlib.Core.List.{List}
 use mathlib.Core.Option.{Option, none, some}
 use Prim.Native.Nat.{ℕ, zero, suc, _+_, _*_, _/_, _%_, _^_, _≤_, _<_}
@@ -9,20 +9,22 @@ use native.Mathlib.Nat.{mod-lt, zero-lt-suc}
 use native.Mathlib.Decide.{decLt}
 use native.Mathlib.Omega.{arith}
 use lib.Dec.{ltb, eqb}
-use lib.ListN.{length, getD}
+use lib.ListN.{length, getD, List·getD-eq-default}
 use lib.Seq.{ext-getD}
-use borrow.Author.Tests.{ltb-true, ne-eqb}
+use borrow.Author.Tests.{ltb-true, eq-eqb, ne-eqb}
 use Rattle.meaning.specs.Search.{pick}
 use Rattle.meaning.specs.Hall.{State, sourceOf}
 use Rattle.meaning.specs.Rule.{live, linkOf, rank}
-use Rattle.meaning.specs.Winner.{ruleAt, eligible, winner}
-use Rattle.meaning.specs.Labels.{ownerWord, ownerAt, placeWith, ownersOf}
+use Rattle.meaning.specs.Winner.{ruleAt, eligible, winner, linkFor, nextAt}
+use Rattle.meaning.specs.Labels.{names, isOn, labelsOf, on, ownerWord, ownerAt, placeWith, ownersOf}
 use Rattle.meaning.proofs.Sound.{Sound}
+use Rattle.meaning.proofs.Idle.{any-off}
 use Rattle.meaning.proofs.Ranks.{Wins}
-use Rattle.meaning.proofs.Members.{tab-length, tab-at}
+use Rattle.meaning.proofs.Members.{tab-length, tab-at, labels-length, labels-word, labels-on, on-place}
+use Rattle.meaning.proofs.LabelWords.{same-words}
 use Rattle.meaning.proofs.Means.{fit, wins}
 use Rattle.meaning.proofs.Numbered.{has-place, place-with, place-without}
-use Rattle.meaning.proofs.Owners.{ownerIn, via, viaLink, Owned, Starts, Whole}
+use Rattle.meaning.proofs.Owners.{ownerIn, via, viaLink, Words, Owned, Agrees, Starts, Whole}
 
 -- ---- the owners
 
@@ -130,3 +132,70 @@ starts m label owner W = record {
       let o = won m (W .sound) owner (W .owned) k v hk hv n in
       ap (λ (l : ℕ). getD (m .link) l 0 / 1024) (via-won m v _ o) ∙ o .here;
 }
+
+-- ---- the labels
+
+via-none : via 0 ≡ 64
+unfolding via
+via-none = refl
+
+-- a winner names a link just where its word as an owner does
+names-via : (m : State) (w l : ℕ) → l < 64 → names (linkFor m w) l ≡ eqb (via (ownerWord m w)) l
+unfolding names linkFor ownerWord
+names-via m w l hl = go (ltb w 256) refl
+  where
+    go : (t : Bool) → ltb w 256 ≡ t → names (pick t (some (linkOf (ruleAt m w))) none) l ≡ eqb (via (pick t (linkOf (ruleAt m w) * 512 + (w + 1)) 0)) l
+    go true e = ap (λ (x : ℕ). eqb x l) (sym (via-word (linkOf (ruleAt m w)) w (link-small (ruleAt m w)) (ltb-true w 256 e)))
+    go false e = sym (ap (λ (x : ℕ). eqb x l) via-none ∙ ne-eqb 64 l (λ q. omega arith))
+
+module _ (m : State) (S : Sound m) where
+  -- a number that no atom has is on no link
+  past-off : (l k : ℕ) → m .atoms ≤ k → isOn m l k ≡ false
+  unfolding isOn
+  past-off l k h = any-off _ (m .atoms) (λ p hp.
+      ap (λ (t : Bool). t && names (nextAt m (getD (m .cut) p 0) (sourceOf m l)) l) (ne-eqb (getD (m .number) p 0) k (λ e. omega (arith, S .numbers .small p hp))))
+
+  -- every link's source is a node, and 0 for a link that is not declared
+  source-small : (l : ℕ) → sourceOf m l < 16
+  source-small l = go (decLt l (m .links))
+    where
+      go : Dec (l < m .links) → sourceOf m l < 16
+      go (yes h) = omega (arith, S .sources l h, S .small)
+      go (no h) = unfold sourceOf in omega (arith, S .unused l (omega arith))
+
+  -- THE LAW: an atom is on a link just where its owner at the link's source names the link
+  on-owner : (owner : List ℕ) → Owned m owner → (l k : ℕ) → l < 64 → k < 512 → isOn m l k ≡ eqb (via (ownerIn owner k (sourceOf m l))) l
+  unfolding nextAt
+  on-owner owner O l k hl hk = go (decLt k (m .atoms))
+    where
+      v : ℕ
+      v = sourceOf m l
+
+      at : (p : ℕ) → p < m .atoms → isOn m l (getD (m .number) p 0) ≡ eqb (via (ownerIn owner (getD (m .number) p 0) v)) l
+      at p hp =
+          on-place m (S .numbers) l p hp ∙ names-via m (winner m v (getD (m .cut) p 0)) l hl
+          ∙ ap (λ (x : ℕ). eqb (via x) l) (sym (O .right p v hp (source-small l)))
+
+      go : Dec (k < m .atoms) → isOn m l k ≡ eqb (via (ownerIn owner k v)) l
+      go (yes h) = let r = has-place (S .numbers) k h in rw (r .2) at (at (r .0) (r .1))
+      go (no h) =
+          past-off l k (omega arith)
+          ∙ sym (ap (λ (x : ℕ). eqb (via x) l) (O .rest k v (omega arith) hk (source-small l)) ∙ ap (λ (x : ℕ). eqb x l) via-none ∙ ne-eqb 64 l (λ q. omega arith))
+
+labels-words : (m : State) → Words (labelsOf m)
+labels-words m = record { size = labels-length m; word = λ i. go i (decLt i 512) }
+  where
+    go : (i : ℕ) → Dec (i < 512) → getD (labelsOf m) i 0 < 2 ^ 64
+    go i (yes h) = labels-word m i h
+    go i (no h) = omega (arith, List·getD-eq-default (labelsOf m) 0 {n = i} (omega (arith, labels-length m)))
+
+-- THE LAW: words that agree with the owners are the labels
+pub labels-are : (m : State) (label owner : List ℕ) → Whole m label owner → Words label → label ≡ labelsOf m
+unfolding sourceOf
+labels-are m label owner W words =
+    same-words label (labelsOf m) words (labels-words m) (λ l k hl hk.
+    W .agrees .bits l k hl hk ∙ sym (on-owner m (W .sound) owner (W .owned) l k hl hk) ∙ sym (labels-on m l k hl hk))
+
+pub agrees-by : (m : State) (label owner : List ℕ) → Sound m → Owned m owner → label ≡ labelsOf m → Agrees (m .link) label owner
+unfolding sourceOf
+agrees-by m label owner S O e = rw e (record { bits = λ l k hl hk. labels-on m l k hl hk ∙ on-owner m S owner O l k hl hk })

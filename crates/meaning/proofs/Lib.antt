@@ -20,5 +20,6 @@ pub mod Exchange
 pub mod Owners
 pub mod Bits
 pub mod LabelWords
+pub mod Idle
 pub mod Numbered
 pub mod Labelled
