@@ -7,24 +7,33 @@ use mathlib.Core.Option.{Option, none, some}
 use Prim.Native.Nat.{ℕ, zero, suc, _+_, _*_, _/_, _%_, _^_, _≤_, _<_}
 use native.Mathlib.Nat.{mod-lt, zero-lt-suc}
 use native.Mathlib.Decide.{decLt}
+use native.Mathlib.Numerals.{add-one}
 use native.Mathlib.Omega.{arith}
 use lib.Dec.{ltb, eqb}
 use lib.ListN.{length, getD, List·getD-eq-default}
 use lib.Seq.{ext-getD}
-use borrow.Author.Tests.{ltb-true, eq-eqb, ne-eqb}
+use borrow.Author.Tests.{ltb-true, lt-ltb, le-ltb, ne-eqb}
 use Rattle.meaning.specs.Search.{pick}
-use Rattle.meaning.specs.Hall.{State, sourceOf}
+use Rattle.meaning.specs.Hall.{zeroes, State, fresh, sourceOf, endOf}
 use Rattle.meaning.specs.Rule.{live, linkOf, rank}
 use Rattle.meaning.specs.Winner.{ruleAt, eligible, winner, linkFor, nextAt}
 use Rattle.meaning.specs.Labels.{names, isOn, labelsOf, on, ownerWord, ownerAt, placeWith, ownersOf}
-use Rattle.meaning.proofs.Sound.{Sound}
-use Rattle.meaning.proofs.Idle.{any-off}
+use Rattle.meaning.specs.declared.Record.{Record}
+use Rattle.meaning.specs.declared.Record.the-variants.{Hall as hall, Link as link, Close as close, Insert as insert, Remove as remove, Loop as loop, Fate as fate, Reach as reach, Tally as tally}
+use Rattle.meaning.specs.Records.{phaseOf}
+use Rattle.meaning.specs.Step.{refusal, withNodes, withLink, closed, leaves}
+use Rattle.meaning.specs.Box.{Held}
+use Rattle.meaning.proofs.Tables.{Holds}
+use Rattle.meaning.proofs.Sound.{Sound, fresh-sound}
+use Rattle.meaning.proofs.Kept.{sound}
+use Rattle.meaning.proofs.Idle.{any-off, labels-idle, owners-idle}
+use Rattle.meaning.proofs.Constant.{same-next}
 use Rattle.meaning.proofs.Ranks.{Wins}
 use Rattle.meaning.proofs.Members.{tab-length, tab-at, labels-length, labels-word, labels-on, on-place}
 use Rattle.meaning.proofs.LabelWords.{same-words}
 use Rattle.meaning.proofs.Means.{fit, wins}
 use Rattle.meaning.proofs.Numbered.{has-place, place-with, place-without}
-use Rattle.meaning.proofs.Owners.{ownerIn, via, viaLink, Words, Owned, Agrees, Starts, Whole}
+use Rattle.meaning.proofs.Owners.{ownerIn, via, viaLink, nextIn, endIn, Words, Owned, Agrees, Starts, Whole}
 
 -- ---- the owners
 
@@ -199,3 +208,95 @@ labels-are m label owner W words =
 pub agrees-by : (m : State) (label owner : List ℕ) → Sound m → Owned m owner → label ≡ labelsOf m → Agrees (m .link) label owner
 unfolding sourceOf
 agrees-by m label owner S O e = rw e (record { bits = λ l k hl hk. labels-on m l k hl hk ∙ on-owner m S owner O l k hl hk })
+
+-- THE LAW: a box that came from a fresh one by records is in order
+pub held-whole : (m : State) (label owner : List ℕ) → Held m label owner → Whole m label owner
+held-whole m label owner H =
+    let S = sound m (H .came) in
+    let O = owned-by m owner S (H .owners) in
+    record { sound = S; owned = O; agrees = agrees-by m label owner S O (H .labels) }
+
+-- ---- the walk by the tables
+
+via-link : (m : State) (w : ℕ) → viaLink (ownerWord m w) ≡ linkFor m w
+unfolding viaLink ownerWord linkFor
+via-link m w = go (ltb w 256) refl
+  where
+    go : (t : Bool) → ltb w 256 ≡ t → viaLink (pick t (linkOf (ruleAt m w) * 512 + (w + 1)) 0) ≡ pick t (some (linkOf (ruleAt m w))) none
+    go true e =
+        let l = linkOf (ruleAt m w) in
+        let h = link-small (ruleAt m w) in
+        let k = ltb-true w 256 e in
+        let q : (l * 512 + (w + 1)) / 512 % 64 ≡ l = omega arith in
+        rw (ne-eqb (l * 512 + (w + 1)) 0 (λ z. omega arith), q)
+    go false e = refl
+
+-- no rule stands past the nodes
+next-past : (m : State) → Sound m → (a v : ℕ) → 16 ≤ v → nextAt m a v ≡ none
+unfolding nextAt linkFor
+next-past m S a v h = go (wins m S v a)
+  where
+    w : ℕ
+    w = winner m v a
+
+    go : ((w ≡ 256) × ((i : ℕ) → i < 256 → eligible m v a i ≡ true → ⊥)) ⊎ Wins (eligible m v a) (λ i. rank (ruleAt m i)) 256 w
+        → pick (ltb (winner m v a) 256) (some (linkOf (ruleAt m (winner m v a)))) none ≡ none
+    go (inl x) = rw (x .0)
+    go (inr x) = absurd (omega (arith, fit m S v a w (x .fits) .here, source-small m S (linkOf (ruleAt m w))))
+
+module _ (m : State) (label owner : List ℕ) (W : Whole m label owner) where
+  -- THE LAW: at an atom the owners lead where the winners do
+  pub next-is : (a p : ℕ) → Holds (m .cut) (m .atoms) a p → nextIn owner (getD (m .number) p 0) ≡ nextAt m a
+  unfolding nextIn
+  next-is a p H = fun-ext (λ v. go v (decLt v 16)) ∙ sym (same-next m (W .sound .cuts) (W .sound .aligned) p a (H .within) (H .from) (rw add-one at (H .below)))
+    where
+      go : (v : ℕ) → Dec (v < 16) → nextIn owner (getD (m .number) p 0) v ≡ nextAt m (getD (m .cut) p 0) v
+      go v (yes h) = rw (lt-ltb v 16 h, W .owned .right p v (H .within) h) (unfold nextAt in via-link m (winner m v (getD (m .cut) p 0)))
+      go v (no h) = rw (le-ltb v 16 (omega arith)) (sym (next-past m (W .sound) (getD (m .cut) p 0) v (omega arith)))
+
+  -- an owner names a link, and the link ends at a node of the hall where it ends at a node
+  pub ends-in : (k v : ℕ) → k < 512 → v < 16 → (ownerIn owner k v ≡ 0 → ⊥)
+      → (via (ownerIn owner k v) < 64) × (endIn (m .link) (via (ownerIn owner k v)) < 256 → endIn (m .link) (via (ownerIn owner k v)) < m .nodes)
+  unfolding endIn endOf
+  ends-in k v hk hv n =
+      let o = won m (W .sound) owner (W .owned) k v hk hv n in
+      let h = W .sound .named (o .rule) (o .within) (o .alive) in
+      rw (via-won m v (ownerIn owner k v) o) (link-small (ruleAt m (o .rule)), W .sound .ends (linkOf (ruleAt m (o .rule))) h)
+
+pub end-is : (m : State) → endIn (m .link) ≡ endOf m
+unfolding endIn endOf
+end-is m = refl
+
+-- an owner's number is that of a rule, counted from 1
+pub owner-numbered : (m : State) (owner : List ℕ) → Sound m → Owned m owner → (k v : ℕ) → k < 512 → v < 16 → (ownerIn owner k v ≡ 0 → ⊥)
+    → (0 < ownerIn owner k v % 512) × (ownerIn owner k v % 512 ≤ 256)
+owner-numbered m owner S O k v hk hv n =
+    let o = won m S owner O k v hk hv n in
+    let h = o .within in
+    let e = o .word in
+    (omega arith, omega arith)
+
+-- ---- records that change no rule
+
+pub fresh-owners : ownersOf fresh ≡ zeroes 8192
+fresh-owners = owners-idle fresh (fresh-sound .idle (unfold fresh in omega arith))
+
+-- before the close no rule is live, and a record leaves the rules as they are
+idle-leaves : (m : State) (r : Record) → Sound m → m .phase < 2 → m .phase ≡ phaseOf r → (i : ℕ) → live (ruleAt (leaves m r) i) ≡ false
+unfolding leaves phaseOf ruleAt withNodes withLink closed
+idle-leaves m (hall n) S h ph = S .idle h
+idle-leaves m (link s c e) S h ph = S .idle h
+idle-leaves m close S h ph = S .idle h
+idle-leaves m (insert r l p n t) S h ph = absurd (omega arith)
+idle-leaves m (remove r) S h ph = absurd (omega arith)
+idle-leaves m loop S h ph = absurd (omega arith)
+idle-leaves m (fate v a) S h ph = absurd (omega arith)
+idle-leaves m (reach v w) S h ph = absurd (omega arith)
+idle-leaves m (tally v) S h ph = absurd (omega arith)
+
+module _ (m : State) (r : Record) (S : Sound m) (h : m .phase < 2) (ok : refusal m r ≡ none) (ph : m .phase ≡ phaseOf r) where
+  pub labels-leaves : labelsOf (leaves m r) ≡ labelsOf m
+  labels-leaves = labels-idle (leaves m r) (idle-leaves m r S h ph) ∙ sym (labels-idle m (S .idle h))
+
+  pub owners-leaves : ownersOf (leaves m r) ≡ ownersOf m
+  owners-leaves = owners-idle (leaves m r) (idle-leaves m r S h ph) ∙ sym (owners-idle m (S .idle h))
