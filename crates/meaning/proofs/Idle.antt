@@ -1,16 +1,15 @@
 -- Where no rule is live there is no winner, so that every label and every owner is 0. Assumes nothing.
-use mathlib.Core.Path.{_≡_, refl, sym, ap, _∙_}
-use mathlib.Core.Bool.{Bool, true, false, _&&_, _||_}
+use mathlib.Core.Path.{_≡_, refl, sym, _∙_}
+use mathlib.Core.Bool.{Bool, true, false, _&&_}
 use mathlib.Core.Option.{Option, none, some}
-use mathlib.Core.List.{List}
 use Prim.Native.Nat.{ℕ, zero, suc, _+_, _*_, _/_, _%_, _<_}
 use native.Mathlib.Omega.{arith}
 use lib.Dec.{eqb}
-use lib.ListN.{length, getD, length-replicate, getD-replicate}
+use lib.ListN.{getD, length-replicate, getD-replicate}
 use lib.Seq.{ext-getD}
 use Rattle.meaning.specs.Search.{anyBelow, tabulate}
-use Rattle.meaning.specs.Hall.{zeroes, State, sourceOf}
-use Rattle.meaning.specs.Rule.{live, linkOf, rank, covers}
+use Rattle.meaning.specs.Hall.{zeroes, State}
+use Rattle.meaning.specs.Rule.{live}
 use Rattle.meaning.specs.Winner.{better, best, ruleAt, eligible, winner, linkFor, nextAt}
 use Rattle.meaning.specs.Labels.{names, isOn, wordOf, labelsOf, ownerWord, ownerAt, placeWith, ownersOf}
 use Rattle.meaning.proofs.Members.{tab-length, tab-at}
