@@ -19,3 +19,8 @@ pub mod Ends
 pub mod Exchange
 pub mod Owners
 pub mod Boxes
+pub mod Bits
+pub mod LabelWords
+pub mod Idle
+pub mod Numbered
+pub mod Labelled
