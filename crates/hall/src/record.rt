@@ -28,6 +28,14 @@ fn body_of(kind: u8) -> Body
     }
 }
 
+// The number in one byte.
+fn one(s: &[u8], i: usize) -> u8
+    requires { ⌜ i + 1 ≤ length (now s) ⌝ }
+    ensures { λ r. ⌜ r ≡ number (now (s .entry)) i 1 ⌝ }
+{
+    s[i]
+}
+
 // The number in two bytes, the highest first.
 fn two(s: &[u8], i: usize) -> u16
     requires { ⌜ i + 2 ≤ length (now s) ⌝ }
@@ -51,14 +59,14 @@ fn fields_of(s: &[u8]) -> Record
 {
     let kind = s[0];
     match kind {
-        1 => Record::Hall(s[1]),
-        2 => Record::Link(s[1], s[2], s[3]),
-        4 => Record::Insert(two(s, 1), s[3], four(s, 4), s[8], two(s, 9)),
+        1 => Record::Hall(one(s, 1)),
+        2 => Record::Link(one(s, 1), one(s, 2), one(s, 3)),
+        4 => Record::Insert(two(s, 1), one(s, 3), four(s, 4), one(s, 8), two(s, 9)),
         5 => Record::Remove(two(s, 1)),
         6 => Record::Loop,
-        7 => Record::Fate(s[1], four(s, 2)),
-        8 => Record::Reach(s[1], s[2]),
-        9 => Record::Tally(s[1]),
+        7 => Record::Fate(one(s, 1), four(s, 2)),
+        8 => Record::Reach(one(s, 1), one(s, 2)),
+        9 => Record::Tally(one(s, 1)),
         _ => Record::Close,
     }
 }
