@@ -18,3 +18,5 @@ pub mod Means
 pub mod Ends
 pub mod Exchange
 pub mod Owners
+pub mod Bits
+pub mod LabelWords
