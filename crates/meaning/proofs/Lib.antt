@@ -19,4 +19,5 @@ pub mod Ends
 pub mod Exchange
 pub mod Owners
 pub mod Bits
+pub mod Searches
 pub mod LabelWords
