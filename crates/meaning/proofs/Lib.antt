@@ -21,3 +21,6 @@ pub mod Owners
 pub mod Bits
 pub mod Searches
 pub mod LabelWords
+pub mod Idle
+pub mod Numbered
+pub mod Labelled
