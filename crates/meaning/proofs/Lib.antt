@@ -24,3 +24,4 @@ pub mod LabelWords
 pub mod Idle
 pub mod Numbered
 pub mod Labelled
+pub mod Splitting
