@@ -36,8 +36,13 @@ module _ (m : State) (label owner : List ℕ) (W : Whole m label owner) (k : ℕ
           let z : ownerIn owner k v ≡ 0 → ⊥ = λ q. omega (arith, ap via q, labelled.via-none) in
           sym (labelled.starts m label owner W .here k v hk hv z) ∙ ap (λ (x : ℕ). getD (m .link) x 0 / 1024) d
 
--- rules and links are the same, so winners and their words are
 module _ (m : State) (b : ℕ) where
+  -- a boundary that there is changes nothing
+  pub with-cut-same : isCut (m .cut) (m .atoms) b ≡ true → withCut m b ≡ m
+  unfolding withCut splitCut splitNumber splitCount
+  with-cut-same e = rw e
+
+  -- rules and links are the same, so winners and their words are
   word-same : (v a : ℕ) → ownerWord (withCut m b) (winner (withCut m b) v a) ≡ ownerWord m (winner m v a)
   unfolding ownerWord ruleAt withCut
   word-same v a = ap (ownerWord m) (winner-same (withCut m b) m refl refl v a)
