@@ -1,7 +1,7 @@
 -- An atom put on a link, taken off one, and moved from one to another. Assumes nothing.
 use mathlib.Core.Bool.{Bool, true, false, _||_, _&&_, not, and-true, and-false, or-true, or-false}
 use mathlib.Core.List.{List}
-use mathlib.Core.Path.{_≡_, refl, sym, ap, _∙_, subst}
+use mathlib.Core.Path.{_≡_, refl, sym, ap, _∙_}
 use Prim.Native.Nat.{ℕ, _+_, _-_, _*_, _/_, _%_, _^_, _<_}
 use native.Mathlib.Decide.{ℕ-discrete}
 use native.Mathlib.Omega.{arith}

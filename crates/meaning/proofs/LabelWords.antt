@@ -3,7 +3,7 @@
 use mathlib.Core.Bool.{Bool, true, false, _||_, _&&_, not, or-false, and-true, and-false}
 use mathlib.Core.List.{List}
 use mathlib.Core.Path.{_≡_, refl, sym, ap, ap₂, _∙_}
-use Prim.Native.Nat.{ℕ, zero, suc, _+_, _-_, _*_, _/_, _%_, _^_, _≤_, _<_}
+use Prim.Native.Nat.{ℕ, zero, suc, _+_, _-_, _*_, _/_, _%_, _^_, _<_}
 use native.Mathlib.Nat.{not-suc-le-zero, le-of-suc-le-suc, mod-lt, pow-suc, zero-lt-suc}
 use native.Mathlib.Decide.{ℕ-discrete, decLt}
 use native.Mathlib.Omega.{arith}
@@ -14,12 +14,12 @@ use lib.Dec.{eqb}
 use lib.ListN.{length, getD, set}
 use lib.Seq.{ext-getD, getD-set-same, getD-set-other}
 use borrow.Author.Tests.{eq-eqb, ne-eqb}
-use Rattle.meaning.specs.Search.{pick, countBelow}
+use Rattle.meaning.specs.Search.{countBelow}
 use Rattle.meaning.specs.Labels.{bit, on}
 use Rattle.meaning.proofs.Members.{bit-zero, bit-suc}
 use Rattle.meaning.proofs.Owners.{Words}
-use Rattle.meaning.proofs.Bits.{bit-lt, bit-ext, digitOf, digit, digit-same, set-bit, clear-bit}
-use Rattle.meaning.proofs.Searches.{count-same, count-add, count-front}
+use Rattle.meaning.proofs.Bits.{bit-lt, bit-ext, digit, digit-same, set-bit, clear-bit}
+use Rattle.meaning.proofs.Below.{count-same, count-add, count-front}
 
 -- the atoms of a link's word i are 64 i and on
 pub on-at : (label : List ℕ) (l i b : ℕ) → b < 64 → on label l (64 * i + b) ≡ eqb (bit (getD label (8 * l + i) 0) b) 1

@@ -19,7 +19,7 @@ pub mod Ends
 pub mod Exchange
 pub mod Owners
 pub mod Bits
-pub mod Searches
+pub mod Below
 pub mod LabelWords
 pub mod Idle
 pub mod Numbered

@@ -1,8 +1,8 @@
 -- A boundary made within an atom keeps the box in order: the upper part has the owners and the links of the atom that is split. Assumes nothing.
 use mathlib.Core.Path.{_≡_, refl, sym, ap, ap₂, _∙_}
-use mathlib.Core.Bool.{Bool, true, false, _||_, _&&_, or-false, true≢false}
+use mathlib.Core.Bool.{Bool, true, false, _||_, _&&_, or-false}
 use mathlib.Core.List.{List}
-use Prim.Native.Nat.{ℕ, suc, _+_, _-_, _*_, _/_, _≤_, _<_}
+use Prim.Native.Nat.{ℕ, _+_, _-_, _/_, _≤_, _<_}
 use native.Mathlib.Decide.{ℕ-discrete}
 use native.Mathlib.Numerals.{add-one}
 use native.Mathlib.Omega.{arith}
@@ -20,8 +20,8 @@ use Rattle.meaning.proofs.Parted.{within, starts, ends}
 use Rattle.meaning.proofs.Constant.{same-winner}
 use Rattle.meaning.proofs.Kept.{keeps-cut}
 use Rattle.meaning.proofs.Exchange.{winner-same}
-use Rattle.meaning.proofs.Owners.{ownerIn, via, Owned, Agrees, Starts, Whole}
-use Rattle.meaning.proofs.Searches.{any-one}
+use Rattle.meaning.proofs.Owners.{ownerIn, via, Owned, Agrees, Whole}
+use Rattle.meaning.proofs.Below.{any-one}
 use Rattle.meaning.proofs.Labelled as labelled
 
 -- an owner at a node other than a link's source does not name the link

@@ -7,7 +7,7 @@ use lib.Count.{ones-le}
 use borrow.Author.Tests.{lt-ltb, le-ltb}
 use Rattle.meaning.specs.Search.{countBelow}
 use Rattle.meaning.specs.Labels.{on, howMany}
-use Rattle.meaning.proofs.Searches.{count-le}
+use Rattle.meaning.proofs.Below.{count-le}
 use Rattle.meaning.proofs.LabelWords.{count-word}
 use borrow.Author.Needs.{needs}
 use Rattle.hall.proofs.label.atoms_on.Statement.{statement}

@@ -9,7 +9,8 @@ use lib.ListN.{getD}
 use borrow.Author.Tests.{lt-ltb, le-ltb}
 use Rattle.meaning.specs.Search.{found}
 use Rattle.meaning.specs.Labels.{on, lowestOn}
-use Rattle.meaning.proofs.Searches.{lowest-none, lowest-is}
+use Rattle.meaning.proofs.Below.{lowest-is}
+use Rattle.meaning.proofs.Numbered.{lowest-off}
 use Rattle.meaning.proofs.LabelWords.{none-below, there}
 use borrow.Author.Needs.{needs}
 use Rattle.hall.proofs.label.lowest_on.Statement.{statement}
@@ -74,7 +75,7 @@ loop-again c =
 
 returns-3 : tie.Need-returns-3 Inv-loop μ-loop
 unfolding found lowestOn
-returns-3 c = rw (lt-ltb _ _ (c .before .before .if1 .left)) (sym (lowest-none _ 512 (λ j l. c .before .loop .inv .1 j (omega arith))))
+returns-3 c = rw (lt-ltb _ _ (c .before .before .if1 .left)) (sym (lowest-off _ 512 (λ j l. c .before .loop .inv .1 j (omega arith))))
 
 pub lowest-on-spec : {M : Type 1} → statement M
 lowest-on-spec =

@@ -1,7 +1,7 @@
 -- Laws of counting and of finding the lowest number below a bound, for any property. Assumes nothing.
 use mathlib.Core.Path.{_≡_, refl, sym, ap, ap₂, _∙_}
 use mathlib.Core.Bool.{Bool, true, false, true≢false}
-use mathlib.Core.Option.{Option, none, some}
+use mathlib.Core.Option.{none, some}
 use Prim.Native.Nat.{ℕ, zero, suc, _+_, _≤_, _<_}
 use native.Mathlib.Nat.{not-suc-le-zero, add-zero, add-suc}
 use native.Mathlib.Decide.{ℕ-discrete}
@@ -9,6 +9,7 @@ use native.Mathlib.Omega.{arith}
 use Rattle.meaning.specs.Search.{pick, orElse, anyBelow, lowestBelow, countBelow}
 use Rattle.meaning.proofs.Members.{any-true}
 use Rattle.meaning.proofs.Idle.{any-off}
+use Rattle.meaning.proofs.Numbered.{lowest-off}
 
 -- ---- counting
 
@@ -40,18 +41,13 @@ count-front P (suc n) = omega (arith, count-front P n)
 
 -- ---- the lowest
 
-pub lowest-none : (P : ℕ → Bool) (n : ℕ) → ((j : ℕ) → j < n → P j ≡ false) → lowestBelow n P ≡ none
-unfolding lowestBelow
-lowest-none P zero h = refl
-lowest-none P (suc n) h = rw (lowest-none P n (λ j l. h j (omega arith)), h n (omega arith))
-
 pub lowest-is : (P : ℕ → Bool) (n k : ℕ) → k < n → P k ≡ true → ((j : ℕ) → j < k → P j ≡ false) → lowestBelow n P ≡ some k
 unfolding lowestBelow
 lowest-is P zero k l e h = absurd (not-suc-le-zero l)
 lowest-is P (suc n) k l e h = go (λ g. lowest-is P n k g e h) (ℕ-discrete k n)
   where
     go : (k < n → lowestBelow n P ≡ some k) → Dec (k ≡ n) → orElse (lowestBelow n P) (pick (P n) (some n) none) ≡ some k
-    go f (yes q) = rw (lowest-none P n (λ j g. h j (omega arith)), sym (ap P q) ∙ e, q)
+    go f (yes q) = rw (lowest-off P n (λ j g. h j (omega arith)), sym (ap P q) ∙ e, q)
     go f (no q) = rw (f (omega arith))
 
 -- ---- some
