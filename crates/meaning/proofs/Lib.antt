@@ -20,8 +20,10 @@ pub mod Exchange
 pub mod Owners
 pub mod Boxes
 pub mod Bits
+pub mod Below
 pub mod LabelWords
 pub mod Idle
 pub mod Numbered
 pub mod Labelled
 pub mod Reading
+pub mod Splitting
