@@ -1,0 +1,24 @@
+-- `link::pack` meets its contract. Assumes nothing.
+use Rattle.meaning.specs.Hall.{linkWord}
+use borrow.Author.Needs.{needs}
+use Rattle.hall.proofs.link.pack.Statement.{statement}
+use Rattle.hall.proofs.link.pack.Tie as tie
+use Rattle.hall.proofs.link.pack.Reads as reads
+use Rattle.hall.proofs.link.pack.Lts as lts
+use Rattle.hall.proofs.link.number_of.Reads as number-of-reads
+
+mul-result : tie.Need-mul-result
+mul-result c = search needs
+
+number-of-requires : tie.Need-number-of-requires
+number-of-requires c κs = search needs
+
+add-result : tie.Need-add-result
+add-result c = search needs
+
+returns : tie.Need-returns
+unfolding linkWord
+returns c = search needs
+
+pub pack-spec : {M : Type 1} → statement M
+pack-spec = tie.close (tie.spec mul-result number-of-requires add-result returns)

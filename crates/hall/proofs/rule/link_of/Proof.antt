@@ -1,0 +1,14 @@
+-- `rule::link_of` meets its contract. Assumes nothing.
+use Rattle.meaning.specs.Rule.{linkOf}
+use borrow.Author.Needs.{needs}
+use Rattle.hall.proofs.rule.link_of.Statement.{statement}
+use Rattle.hall.proofs.rule.link_of.Tie as tie
+use Rattle.hall.proofs.rule.link_of.Reads as reads
+use Rattle.hall.proofs.rule.link_of.Lts as lts
+
+returns : tie.Need-returns
+unfolding linkOf
+returns c = search needs
+
+pub link-of-spec : {M : Type 1} → statement M
+link-of-spec = tie.close (tie.spec returns)

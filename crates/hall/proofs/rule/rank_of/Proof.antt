@@ -1,0 +1,14 @@
+-- `rule::rank_of` meets its contract. Assumes nothing.
+use Rattle.meaning.specs.Rule.{rank}
+use borrow.Author.Needs.{needs}
+use Rattle.hall.proofs.rule.rank_of.Statement.{statement}
+use Rattle.hall.proofs.rule.rank_of.Tie as tie
+use Rattle.hall.proofs.rule.rank_of.Reads as reads
+use Rattle.hall.proofs.rule.rank_of.Lts as lts
+
+returns : tie.Need-returns
+unfolding rank
+returns c = search needs
+
+pub rank-of-spec : {M : Type 1} → statement M
+rank-of-spec = tie.close (tie.spec returns)
