@@ -3,8 +3,6 @@ use Rattle.meaning.specs.Hall.{endNumber}
 use borrow.Author.Needs.{needs}
 use Rattle.hall.proofs.link.end_of.Statement.{statement}
 use Rattle.hall.proofs.link.end_of.Tie as tie
-use Rattle.hall.proofs.link.end_of.Reads as reads
-use Rattle.hall.proofs.link.end_of.Lts as lts
 
 cast-t4 : tie.Need-cast-t4
 cast-t4 c = search needs

@@ -5,8 +5,6 @@ use Rattle.meaning.specs.Hall.{endNumber}
 use borrow.Author.Needs.{needs}
 use Rattle.hall.proofs.link.number_of.Statement.{statement}
 use Rattle.hall.proofs.link.number_of.Tie as tie
-use Rattle.hall.proofs.link.number_of.Reads as reads
-use Rattle.hall.proofs.link.number_of.Lts as lts
 
 enum-known-end : tie.Need-enum-known-end
 enum-known-end c = search needs

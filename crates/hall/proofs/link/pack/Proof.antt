@@ -3,9 +3,6 @@ use Rattle.meaning.specs.Hall.{linkWord}
 use borrow.Author.Needs.{needs}
 use Rattle.hall.proofs.link.pack.Statement.{statement}
 use Rattle.hall.proofs.link.pack.Tie as tie
-use Rattle.hall.proofs.link.pack.Reads as reads
-use Rattle.hall.proofs.link.pack.Lts as lts
-use Rattle.hall.proofs.link.number_of.Reads as number-of-reads
 
 mul-result : tie.Need-mul-result
 mul-result c = search needs

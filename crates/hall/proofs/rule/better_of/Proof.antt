@@ -1,15 +1,9 @@
 -- `rule::better_of` meets its contract. Each way out is a law of `Ranks`. Assumes nothing.
 use Rattle.meaning.proofs.Ranks.{keep-out, take-first, higher-by, lower-by}
 use Rattle.hall.proofs.Rules.{covers-below, covers-past, covers-between}
-use mathlib.Core.Path.{_≡_, refl, sym, ap, _∙_}
 use borrow.Author.Needs.{needs}
 use Rattle.hall.proofs.rule.better_of.Statement.{statement}
 use Rattle.hall.proofs.rule.better_of.Tie as tie
-use Rattle.hall.proofs.rule.better_of.Reads as reads
-use Rattle.hall.proofs.rule.better_of.Lts as lts
-use Rattle.hall.proofs.rule.lower_of.Reads as lower-of-reads
-use Rattle.hall.proofs.rule.rank_of.Reads as rank-of-reads
-use Rattle.hall.proofs.rule.upper_of.Reads as upper-of-reads
 
 mul-x : tie.Need-mul-x
 mul-x c = search needs

@@ -1,68 +1,68 @@
+-- `rule::gather` meets its contract. The loop's invariant: the rules below i are gathered. Assumes nothing.
+use Rattle.hall.proofs.Rules.{Gathering, gathered-none, gathered-skip, gathered-take, gathered-all}
+use lib.ListN.{length, length-set}
+use mathlib.Core.Bool.{true≢false}
+use mathlib.Core.Logic.{⊎-elim}
+use Prim.Native.Nat.{_-_, _≤_}
+use native.Mathlib.Omega.{arith}
+use mathlib.Core.Path.{_≡_, sym, _∙_}
 use borrow.Author.Needs.{needs}
 use Rattle.hall.proofs.rule.gather.Statement.{statement}
 use Rattle.hall.proofs.rule.gather.Tie as tie
-use Rattle.hall.proofs.rule.gather.Reads as reads
-use Rattle.hall.proofs.rule.gather.Lts as lts
-use Rattle.hall.proofs.rule.overlaps.Reads as overlaps-reads
-use Rattle.hall.proofs.rule.stands_at.Reads as stands-at-reads
 
 abbrev Inv-loop : tie.InvT-loop
-Inv-loop link rule v w numbers₀ count₀ i₀ numbers count i = ?
+Inv-loop link rule v w numbers₀ count₀ i₀ numbers count i = (i ≤ 256) × (length numbers ≡ 256) × Gathering link rule v w numbers count i
 
 abbrev μ-loop : tie.MeasureT-loop
-μ-loop link rule v w numbers₀ count₀ i₀ numbers count i = ?
+μ-loop link rule v w numbers₀ count₀ i₀ numbers count i = 256 - i
 
--- src/rule.rt:121:5
 loop-holds : tie.Need-loop-holds Inv-loop μ-loop
-loop-holds c = search needs
+loop-holds c = (search needs, search needs, gathered-none)
 
--- src/rule.rt:122:17
 mul-x : tie.Need-mul-x Inv-loop μ-loop
 mul-x c = search needs
 
--- src/rule.rt:122:17
 element-copy-out-x : tie.Need-element-copy-out-x Inv-loop μ-loop
 element-copy-out-x c = search needs
 
--- src/rule.rt:123:12
 stands-at-requires : tie.Need-stands-at-requires Inv-loop μ-loop
 stands-at-requires c κs = search needs
 
--- src/rule.rt:124:16
 overlaps-requires : tie.Need-overlaps-requires Inv-loop μ-loop
 overlaps-requires c κs = search needs
 
--- src/rule.rt:125:34
 cast-numbers : tie.Need-cast-numbers Inv-loop μ-loop
 cast-numbers c = search needs
 
--- src/rule.rt:125:17
 mul-numbers : tie.Need-mul-numbers Inv-loop μ-loop
 mul-numbers c = search needs
 
--- src/rule.rt:125:17
 slice-write-numbers : tie.Need-slice-write-numbers Inv-loop μ-loop
 slice-write-numbers c = search needs
 
--- src/rule.rt:126:17
 add-count : tie.Need-add-count Inv-loop μ-loop
 add-count c = search needs
 
--- src/rule.rt:129:9
 add-i : tie.Need-add-i Inv-loop μ-loop
 add-i c = search needs
 
--- src/rule.rt:121:5
 loop-less : tie.Need-loop-less Inv-loop μ-loop
 loop-less c = search needs
 
--- src/rule.rt:121:5
 loop-again : tie.Need-loop-again Inv-loop μ-loop
-loop-again c = search needs
+loop-again c = let v = c .before .before .before .before .loop .inv in
+    let s = sym (c .before .stands-at .ensures) in (
+      search needs,
+      ⊎-elim (λ x. rw (x .3) (simp length-set (v .1))) (⊎-elim (λ x. rw (x .3) (v .1)) (λ x. rw (x .1) (v .1))) (c .if1 .came),
+      ⊎-elim (λ x. rw (x .3, x .4) (gathered-take (v .2) (omega arith) (s ∙ x .0 .taken)))
+          (⊎-elim (λ x. rw (x .3, x .4) (gathered-skip (v .2) (λ _ o. true≢false (sym o ∙ sym (x .1 .ensures) ∙ x .2 .left))))
+          (λ x. rw (x .1, x .2) (gathered-skip (v .2) (λ t _. true≢false (sym t ∙ s ∙ x .0 .left)))))
+          (c .if1 .came),
+    )
 
--- src/rule.rt:109:1
 returns : tie.Need-returns Inv-loop μ-loop
-returns c = search needs
+returns c = let done : c .before .loop .i ≡ 256 = omega arith in
+    gathered-all (rw done at (c .before .loop .inv .2))
 
 pub gather-spec : {M : Type 1} → statement M
 gather-spec =

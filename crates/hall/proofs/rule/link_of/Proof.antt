@@ -3,8 +3,6 @@ use Rattle.meaning.specs.Rule.{linkOf}
 use borrow.Author.Needs.{needs}
 use Rattle.hall.proofs.rule.link_of.Statement.{statement}
 use Rattle.hall.proofs.rule.link_of.Tie as tie
-use Rattle.hall.proofs.rule.link_of.Reads as reads
-use Rattle.hall.proofs.rule.link_of.Lts as lts
 
 returns : tie.Need-returns
 unfolding linkOf

@@ -3,8 +3,6 @@ use Rattle.meaning.specs.Rule.{lower}
 use borrow.Author.Needs.{needs}
 use Rattle.hall.proofs.rule.lower_of.Statement.{statement}
 use Rattle.hall.proofs.rule.lower_of.Tie as tie
-use Rattle.hall.proofs.rule.lower_of.Reads as reads
-use Rattle.hall.proofs.rule.lower_of.Lts as lts
 
 returns : tie.Need-returns
 unfolding lower

@@ -1,13 +1,8 @@
 -- `rule::overlaps` meets its contract. Assumes nothing.
 use Rattle.hall.proofs.Rules.{overlaps-if, overlaps-not}
-use mathlib.Core.Path.{_≡_, refl, sym, ap, _∙_}
 use borrow.Author.Needs.{needs}
 use Rattle.hall.proofs.rule.overlaps.Statement.{statement}
 use Rattle.hall.proofs.rule.overlaps.Tie as tie
-use Rattle.hall.proofs.rule.overlaps.Reads as reads
-use Rattle.hall.proofs.rule.overlaps.Lts as lts
-use Rattle.hall.proofs.rule.lower_of.Reads as lower-of-reads
-use Rattle.hall.proofs.rule.upper_of.Reads as upper-of-reads
 
 lower-of-requires : tie.Need-lower-of-requires
 lower-of-requires c κs = search needs

@@ -3,8 +3,6 @@ use Rattle.meaning.specs.Rule.{ruleWord}
 use borrow.Author.Needs.{needs}
 use Rattle.hall.proofs.rule.pack.Statement.{statement}
 use Rattle.hall.proofs.rule.pack.Tie as tie
-use Rattle.hall.proofs.rule.pack.Reads as reads
-use Rattle.hall.proofs.rule.pack.Lts as lts
 
 cast-free : tie.Need-cast-free
 cast-free c = search needs

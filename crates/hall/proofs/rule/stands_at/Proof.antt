@@ -3,14 +3,10 @@ use denote.Ref.{now}
 use lib.ListN.{getD}
 use Prim.Native.Nat.{ℕ, _/_}
 use Rattle.hall.proofs.Rules.{not-standing, stands-there}
-use mathlib.Core.Path.{_≡_, refl, sym, ap, _∙_}
+use mathlib.Core.Path.{ap, _∙_}
 use borrow.Author.Needs.{needs}
 use Rattle.hall.proofs.rule.stands_at.Statement.{statement}
 use Rattle.hall.proofs.rule.stands_at.Tie as tie
-use Rattle.hall.proofs.rule.stands_at.Reads as reads
-use Rattle.hall.proofs.rule.stands_at.Lts as lts
-use Rattle.hall.proofs.link.source_of.Reads as source-of-reads
-use Rattle.hall.proofs.rule.link_of.Reads as link-of-reads
 
 returns : tie.Need-returns
 returns c = not-standing _ _ _ (c .if1 .taken)

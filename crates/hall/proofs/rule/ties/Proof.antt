@@ -1,51 +1,51 @@
+-- `rule::ties` meets its contract. The loop's invariant: none of the rules below i ties. Assumes nothing.
+use Rattle.hall.proofs.Rules.{any-none, any-more}
+use Rattle.hall.specs.Gathered.{tying}
+use Rattle.meaning.proofs.Members.{any-true}
+use Rattle.meaning.specs.Search.{anyBelow}
+use lib.ListN.{getD}
+use mathlib.Core.Bool.{false}
+use Prim.Native.Nat.{_-_, _≤_}
+use native.Mathlib.Omega.{arith}
+use mathlib.Core.Path.{_≡_, sym, _∙_}
 use borrow.Author.Needs.{needs}
 use Rattle.hall.proofs.rule.ties.Statement.{statement}
 use Rattle.hall.proofs.rule.ties.Tie as tie
-use Rattle.hall.proofs.rule.ties.Reads as reads
-use Rattle.hall.proofs.rule.ties.Lts as lts
-use Rattle.hall.proofs.rule.ties_with.Reads as ties-with-reads
 
 abbrev Inv-loop : tie.InvT-loop
-Inv-loop link rule v w i₀ i = ?
+Inv-loop link rule v w i₀ i = (i ≤ 256) × (anyBelow i (λ k. tying link v w (getD rule k 0)) ≡ false)
 
 abbrev μ-loop : tie.MeasureT-loop
-μ-loop link rule v w i₀ i = ?
+μ-loop link rule v w i₀ i = 256 - i
 
--- src/rule.rt:99:5
 loop-holds : tie.Need-loop-holds Inv-loop μ-loop
-loop-holds c = search needs
+loop-holds c = (search needs, any-none _)
 
--- src/rule.rt:100:34
 mul-ties-with : tie.Need-mul-ties-with Inv-loop μ-loop
 mul-ties-with c = search needs
 
--- src/rule.rt:100:34
 element-copy-out-ties-with : tie.Need-element-copy-out-ties-with Inv-loop μ-loop
 element-copy-out-ties-with c = search needs
 
--- src/rule.rt:100:12
 ties-with-requires : tie.Need-ties-with-requires Inv-loop μ-loop
 ties-with-requires c κs = search needs
 
--- src/rule.rt:101:13
 returns : tie.Need-returns Inv-loop μ-loop
-returns c = search needs
+returns c = let b = c .before .before in
+    sym (any-true _ 256 (b .before .before .loop .i) (omega arith) (sym (c .before .ties-with .ensures) ∙ c .if1 .taken))
 
--- src/rule.rt:103:9
 add-i : tie.Need-add-i Inv-loop μ-loop
 add-i c = search needs
 
--- src/rule.rt:99:5
 loop-less : tie.Need-loop-less Inv-loop μ-loop
 loop-less c = search needs
 
--- src/rule.rt:99:5
 loop-again : tie.Need-loop-again Inv-loop μ-loop
-loop-again c = search needs
+loop-again c = (search needs, any-more _ _ (c .before .before .before .before .loop .inv .1) (sym (c .before .ties-with .ensures) ∙ c .if1 .left))
 
--- src/rule.rt:95:1
 returns-2 : tie.Need-returns-2 Inv-loop μ-loop
-returns-2 c = search needs
+returns-2 c = let done : c .before .loop .i ≡ 256 = omega arith in
+    sym (rw done at (c .before .loop .inv .1))
 
 pub ties-spec : {M : Type 1} → statement M
 ties-spec =

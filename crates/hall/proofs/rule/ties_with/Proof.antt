@@ -1,14 +1,9 @@
 -- `rule::ties_with` meets its contract. Assumes nothing.
 use Rattle.hall.proofs.Rules.{ties-apart, ties-if, ties-elsewhere}
-use mathlib.Core.Path.{_≡_, refl, sym, ap, _∙_}
+use mathlib.Core.Path.{sym, _∙_}
 use borrow.Author.Needs.{needs}
 use Rattle.hall.proofs.rule.ties_with.Statement.{statement}
 use Rattle.hall.proofs.rule.ties_with.Tie as tie
-use Rattle.hall.proofs.rule.ties_with.Reads as reads
-use Rattle.hall.proofs.rule.ties_with.Lts as lts
-use Rattle.hall.proofs.rule.overlaps.Reads as overlaps-reads
-use Rattle.hall.proofs.rule.rank_of.Reads as rank-of-reads
-use Rattle.hall.proofs.rule.stands_at.Reads as stands-at-reads
 
 rank-of-requires : tie.Need-rank-of-requires
 rank-of-requires c κs = search needs

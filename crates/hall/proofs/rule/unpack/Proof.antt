@@ -5,8 +5,6 @@ use Rattle.meaning.specs.Rule.{linkOf, lengthOf, rank, lower}
 use borrow.Author.Needs.{needs}
 use Rattle.hall.proofs.rule.unpack.Statement.{statement}
 use Rattle.hall.proofs.rule.unpack.Tie as tie
-use Rattle.hall.proofs.rule.unpack.Reads as reads
-use Rattle.hall.proofs.rule.unpack.Lts as lts
 
 cast-free : tie.Need-cast-free
 cast-free c = search needs

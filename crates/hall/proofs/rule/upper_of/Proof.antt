@@ -6,8 +6,6 @@ use native.Mathlib.Omega.{arith}
 use borrow.Author.Needs.{needs}
 use Rattle.hall.proofs.rule.upper_of.Statement.{statement}
 use Rattle.hall.proofs.rule.upper_of.Tie as tie
-use Rattle.hall.proofs.rule.upper_of.Reads as reads
-use Rattle.hall.proofs.rule.upper_of.Lts as lts
 
 shl-result : tie.Need-shl-result
 shl-result c = search needs
