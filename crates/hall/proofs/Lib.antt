@@ -1,2 +1,3 @@
 -- The laws of the box's own definitions, for its functions' proofs.
 mod Rules
+mod Entries

@@ -4,7 +4,7 @@ use mathlib.Core.Path.{_≡_, refl, sym, ap, ap₂, _∙_, subst}
 use mathlib.Core.Logic.{_⊎_, inl, inr, ⊎-elim}
 use mathlib.Core.Bool.{Bool, true, false, _&&_, true≢false}
 use mathlib.Core.List.{List}
-use Prim.Native.Nat.{ℕ, zero, suc, _+_, _-_, _/_, _≤_, _<_}
+use Prim.Native.Nat.{ℕ, zero, suc, _+_, _/_, _^_, _≤_, _<_}
 use native.Mathlib.Nat.{not-suc-le-zero}
 use native.Mathlib.Decide.{ℕ-discrete}
 use native.Mathlib.Numerals.{add-one}
@@ -15,10 +15,12 @@ use borrow.Author.Count.{below-more}
 use lib.Seq.{getD-set-same, getD-set-other}
 use borrow.Author.Tests.{eq-eqb, ne-eqb, lt-ltb, le-ltb, le-leb, lt-leb, leb-true, ltb-true}
 use Rattle.meaning.specs.Search.{anyBelow}
-use Rattle.meaning.specs.Rule.{live, linkOf, rank, lower, upper, covers, overlap}
+use Rattle.meaning.specs.Step.{clashes}
+use Rattle.meaning.specs.Rule.{ruleWord, live, linkOf, rank, lower, upper, covers, overlap}
 use Rattle.meaning.specs.Hall.{State, sourceOf}
 use Rattle.meaning.specs.Winner.{better, ruleAt, eligible, winner}
 use Rattle.meaning.proofs.Places.{le-or-lt}
+use Rattle.meaning.proofs.Words.{link-of}
 use Rattle.meaning.proofs.Ranks.{Wins, keep-out, take-first, take-higher, keep-lower}
 use Rattle.meaning.proofs.Members.{and-both}
 use Rattle.meaning.proofs.Means.{wins}
@@ -91,6 +93,13 @@ any-none P = refl
 pub any-more : (P : ℕ → Bool) (i : ℕ) → anyBelow i P ≡ false → P i ≡ false → anyBelow (i + 1) P ≡ false
 unfolding anyBelow
 any-more P i e f = rw (add-one, e, f)
+
+-- where w is the word of a rule on link l, which starts at node v, a rule that ties is a clash
+module _ (m : State) (l p n t : ℕ) (hl : l < 64) (hp : p < 2 ^ 32) (hn : n ≤ 32) (ht : t < 2 ^ 16) where
+  pub ties-clash : (v w : ℕ) → v ≡ getD (m .link) l 0 / 1024 → w ≡ ruleWord l p n t
+      → anyBelow 256 (λ i. tying (m .link) v w (getD (m .rule) i 0)) ≡ clashes m (ruleWord l p n t)
+  unfolding clashes tying ruleAt sourceOf
+  ties-clash v w e f = rw (f, e, link-of l p n t hl hp hn ht)
 
 -- ---- gathering
 

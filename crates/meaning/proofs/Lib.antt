@@ -18,3 +18,4 @@ pub mod Means
 pub mod Ends
 pub mod Exchange
 pub mod Owners
+pub mod Refusals
