@@ -1,26 +1,30 @@
--- Laws of rules by their words: those that stand at a node, those that tie, the gathered ones and the best among them.
+-- Laws of rules by their words: those that stand at a node, those that tie, an insert's last checks, the gathered rules and the best among them.
 -- Assumes nothing.
 use mathlib.Core.Path.{_≡_, refl, sym, ap, ap₂, _∙_, subst}
 use mathlib.Core.Logic.{_⊎_, inl, inr, ⊎-elim}
 use mathlib.Core.Bool.{Bool, true, false, _&&_, true≢false}
 use mathlib.Core.List.{List}
+use mathlib.Core.Option.{none, some}
 use Prim.Native.Nat.{ℕ, zero, suc, _+_, _/_, _^_, _≤_, _<_}
 use native.Mathlib.Nat.{not-suc-le-zero}
 use native.Mathlib.Decide.{ℕ-discrete}
 use native.Mathlib.Numerals.{add-one}
 use native.Mathlib.Omega.{arith}
-use lib.Dec.{ltb, eqb}
+use lib.Dec.{leb, ltb, eqb}
 use lib.ListN.{length, getD, set}
-use borrow.Author.Count.{below-more}
 use lib.Seq.{getD-set-same, getD-set-other}
+use borrow.Author.Count.{below-more}
 use borrow.Author.Tests.{eq-eqb, ne-eqb, lt-ltb, le-ltb, le-leb, lt-leb, leb-true, ltb-true}
-use Rattle.meaning.specs.Search.{anyBelow}
-use Rattle.meaning.specs.Step.{clashes}
+use Rattle.meaning.specs.declared.Record.the-variants.{Insert as insert}
+use Rattle.meaning.specs.Search.{pick, anyBelow}
+use Rattle.meaning.specs.Atoms.{isCut}
+use Rattle.meaning.specs.Step.{ragged, clashes, added, refusal}
 use Rattle.meaning.specs.Rule.{ruleWord, live, linkOf, rank, lower, upper, covers, overlap}
 use Rattle.meaning.specs.Hall.{State, sourceOf}
 use Rattle.meaning.specs.Winner.{better, ruleAt, eligible, winner}
 use Rattle.meaning.proofs.Places.{le-or-lt}
 use Rattle.meaning.proofs.Words.{link-of}
+use Rattle.meaning.proofs.Refusals.{rule-clashes, cuts-many, passes}
 use Rattle.meaning.proofs.Ranks.{Wins, keep-out, take-first, take-higher, keep-lower}
 use Rattle.meaning.proofs.Members.{and-both}
 use Rattle.meaning.proofs.Means.{wins}
@@ -86,20 +90,30 @@ module _ (link : List ℕ) (v w x : ℕ) where
   pub ties-if : (a b : ℕ) → a ≡ rank x → b ≡ rank w → a ≡ b → standing link v x ≡ true → overlap x w ≡ tying link v w x
   ties-if a b e f d s = rw (tying-is, s, eq-eqb (rank x) (rank w) (sym e ∙ d ∙ f))
 
-pub any-none : (P : ℕ → Bool) → anyBelow 0 P ≡ false
-unfolding anyBelow
-any-none P = refl
+-- ---- the last checks of an insert, by the values that code has: the node v, the word w, and whether a rule ties
 
-pub any-more : (P : ℕ → Bool) (i : ℕ) → anyBelow i P ≡ false → P i ≡ false → anyBelow (i + 1) P ≡ false
-unfolding anyBelow
-any-more P i e f = rw (add-one, e, f)
-
--- where w is the word of a rule on link l, which starts at node v, a rule that ties is a clash
-module _ (m : State) (l p n t : ℕ) (hl : l < 64) (hp : p < 2 ^ 32) (hn : n ≤ 32) (ht : t < 2 ^ 16) where
-  pub ties-clash : (v w : ℕ) → v ≡ getD (m .link) l 0 / 1024 → w ≡ ruleWord l p n t
-      → anyBelow 256 (λ i. tying (m .link) v w (getD (m .rule) i 0)) ≡ clashes m (ruleWord l p n t)
+module _ (m : State) (r l p n t : ℕ) (few : m .links ≤ 64) (hp : p < 2 ^ 32) (ht : t < 2 ^ 16)
+    (low : r ≤ 255) (free : ruleAt m r ≡ 0) (known : l < m .links) (short : n ≤ 32) (whole : ragged p n ≡ false) (v w : ℕ) (tied : Bool)
+    (isSource : v ≡ getD (m .link) l 0 / 1024) (isWord : w ≡ ruleWord l p n t)
+    (isTied : tied ≡ anyBelow 256 (λ i. tying (m .link) v w (getD (m .rule) i 0))) where
+  clash : tied ≡ clashes m (ruleWord l p n t)
   unfolding clashes tying ruleAt sourceOf
-  ties-clash v w e f = rw (f, e, link-of l p n t hl hp hn ht)
+  clash = isTied ∙ rw (isWord, isSource, link-of l p n t (omega arith) hp short ht)
+
+  pub insert-ties : tied ≡ true → some 12 ≡ refusal m (insert r l p n t)
+  insert-ties e = sym (rule-clashes m r l p n t low free known short whole (sym clash ∙ e))
+
+  module _ (apart : tied ≡ false) (b c x y : ℕ) (isLow : b ≡ lower w) (isHigh : c ≡ upper w)
+      (isX : x ≡ pick (isCut (m .cut) (m .atoms) b) 0 1) (isY : y ≡ pick (isCut (m .cut) (m .atoms) c) 0 1) where
+    more-cuts : x + y ≡ added m (ruleWord l p n t)
+    unfolding added
+    more-cuts = rw (isX, isY, isLow, isHigh, isWord)
+
+    pub insert-full : 512 < m .atoms + (x + y) → some 13 ≡ refusal m (insert r l p n t)
+    insert-full h = sym (cuts-many m r l p n t low free known short whole (sym clash ∙ apart) (omega (arith, more-cuts)))
+
+    pub insert-passes : m .atoms + (x + y) ≤ 512 → none ≡ refusal m (insert r l p n t)
+    insert-passes h = sym (passes m r l p n t low free known short whole (sym clash ∙ apart) (omega (arith, more-cuts)))
 
 -- ---- gathering
 
@@ -162,10 +176,16 @@ module _ (E : ℕ → Bool) (r : ℕ → ℕ) (among : List ℕ) where
   unfolding bestIn
   best-in-more b t j e d = rw add-one (d ∙ rw e)
 
+  abbrev Out : ℕ → Type 0
+  Out j = E (getD among j 0) ≡ true → ⊥
+
+  abbrev Under : ℕ → ℕ → Type 0
+  Under b j = E (getD among j 0) ≡ true → r (getD among j 0) ≤ r b
+
   -- what b is among the first count of them
   data Outcome (count b : ℕ) : Type 0 where
-    nobody : b ≡ 256 → ((j : ℕ) → j < count → E (getD among j 0) ≡ true → ⊥) → Outcome count b
-    somebody : b < 256 → (j : ℕ) → j < count → getD among j 0 ≡ b → E b ≡ true → ((j : ℕ) → j < count → E (getD among j 0) ≡ true → r (getD among j 0) ≤ r b) → Outcome count b
+    nobody : b ≡ 256 → ((j : ℕ) → j < count → Out j) → Outcome count b
+    somebody : b < 256 → (j : ℕ) → j < count → getD among j 0 ≡ b → E b ≡ true → ((j : ℕ) → j < count → Under b j) → Outcome count b
 
   step : (k b : ℕ) → getD among k 0 < 256 → Outcome k b → Outcome (k + 1) (better E r b (getD among k 0))
   step k b l o = go (E i) refl o
@@ -177,17 +197,16 @@ module _ (E : ℕ → Bool) (r : ℕ → ℕ) (among : List ℕ) where
       rest b′ e p = subst (Outcome (k + 1)) e p
 
       go : (t : Bool) → E i ≡ t → Outcome k b → Outcome (k + 1) (better E r b i)
-      go false e (nobody n f) = rest b (keep-out E r b i e) (nobody n (below-more (λ j. E (getD among j 0) ≡ true → ⊥) k f (λ d. true≢false (sym d ∙ e))))
+      go false e (nobody n f) = rest b (keep-out E r b i e) (nobody n (below-more Out k f (λ d. true≢false (sym d ∙ e))))
       go false e (somebody s j h a c f) =
-          rest b (keep-out E r b i e) (somebody s j (omega arith) a c (below-more (λ j. E (getD among j 0) ≡ true → r (getD among j 0) ≤ r b) k f (λ d. absurd (true≢false (sym d ∙ e)))))
+          rest b (keep-out E r b i e) (somebody s j (omega arith) a c (below-more (Under b) k f (λ d. absurd (true≢false (sym d ∙ e)))))
       go true e (nobody n f) =
-          rest i (take-first E r b i e n) (somebody l k (omega arith) refl e (below-more (λ j. E (getD among j 0) ≡ true → r (getD among j 0) ≤ r i) k (λ j h d. absurd (f j h d)) (λ d. omega arith)))
+          rest i (take-first E r b i e n) (somebody l k (omega arith) refl e (below-more (Under i) k (λ j h d. absurd (f j h d)) (λ d. omega arith)))
       go true e (somebody s j h a c f) =
           ⊎-elim
-          (λ (g : r i ≤ r b). rest b (keep-lower E r b i e (λ z. omega arith) g)
-          (somebody s j (omega arith) a c (below-more (λ j. E (getD among j 0) ≡ true → r (getD among j 0) ≤ r b) k f (λ d. g))))
+          (λ (g : r i ≤ r b). rest b (keep-lower E r b i e (λ z. omega arith) g) (somebody s j (omega arith) a c (below-more (Under b) k f (λ d. g))))
           (λ (g : r b < r i). rest i (take-higher E r b i e (λ z. omega arith) g)
-          (somebody l k (omega arith) refl e (below-more (λ j. E (getD among j 0) ≡ true → r (getD among j 0) ≤ r i) k (λ j h d. omega (arith, f j h d)) (λ d. omega arith))))
+          (somebody l k (omega arith) refl e (below-more (Under i) k (λ j h d. omega (arith, f j h d)) (λ d. omega arith))))
           (le-or-lt (r i) (r b))
 
   outcome : (count : ℕ) → ((j : ℕ) → j < count → getD among j 0 < 256) → Outcome count (bestIn E r among count)
@@ -200,7 +219,7 @@ module _ (E : ℕ → Bool) (r : ℕ → ℕ) (among : List ℕ) where
 meets-at : (x w a : ℕ) → covers x a ≡ true → lower w ≤ a → a < upper w → overlap x w ≡ true
 unfolding covers overlap
 meets-at x w a e from below =
-    let b = and-both _ _ e in
+    let b = and-both (leb (lower x) a) (ltb a (upper x)) e in
     ap₂ _&&_ (lt-ltb (lower x) (upper w) (omega (arith, leb-true (lower x) a (b .0)))) (lt-ltb (lower w) (upper x) (omega (arith, ltb-true a (upper x) (b .1))))
 
 module _ (m : State) (v w a : ℕ) (among : List ℕ) (count : ℕ) (S : Sound m) (g : Gathers (m .link) (m .rule) v w among count) where
@@ -224,7 +243,7 @@ module _ (m : State) (v w a : ℕ) (among : List ℕ) (count : ℕ) (S : Sound m
   among-eligible j b h e f =
       rw (eligible-is, f, subst (λ (k : ℕ). standing (m .link) v (getD (m .rule) k 0) ≡ true) e (g .each j h))
 
-  -- THE LAW
+  -- THE LAW: for an address that w covers, the best of the gathered is the winner
   pub best-gathered : lower w ≤ a → a < upper w → bestIn covering ranked among count ≡ winner m v a
   unfolding ruleAt
   best-gathered from below = go (outcome covering ranked among count (g .within)) (wins m S v a)

@@ -1,16 +1,13 @@
 -- The refusals of an insert and of a remove, check by check in their order. Assumes nothing.
-use mathlib.Core.Path.{_≡_, refl, sym, ap, ap₂, _∙_}
-use mathlib.Core.Bool.{Bool, true, false, not, _||_}
+use mathlib.Core.Path.{_≡_}
+use mathlib.Core.Bool.{true, false}
 use mathlib.Core.Option.{Option, none, some}
 use Prim.Native.Nat.{ℕ, _+_, _≤_, _<_}
-use lib.Dec.{leb, ltb, eqb}
-use borrow.Author.Tests.{eq-eqb, ne-eqb, lt-ltb, le-ltb, le-leb, lt-leb}
+use borrow.Author.Tests.{ne-eqb, lt-ltb, le-ltb, le-leb, lt-leb}
 use Rattle.meaning.specs.declared.Record.the-variants.{Insert as insert, Remove as remove}
-use Rattle.meaning.specs.Search.{pick}
 use Rattle.meaning.specs.Hall.{State}
-use Rattle.meaning.specs.Rule.{ruleWord, live, lower, upper}
+use Rattle.meaning.specs.Rule.{ruleWord, live}
 use Rattle.meaning.specs.Winner.{ruleAt}
-use Rattle.meaning.specs.Atoms.{isCut}
 use Rattle.meaning.specs.Step.{when, ragged, clashes, added, refusal}
 
 pub live-not : (w : ℕ) → w ≡ 0 → live w ≡ false
@@ -66,12 +63,6 @@ module _ (m : State) (r l p n t : ℕ) where
               unfolding refusal when
               passes h =
                   rw (le-ltb 255 r low, live-not (ruleAt m r) free, lt-leb (m .links) l known, le-ltb 32 n short, whole, apart, le-ltb 512 (m .atoms + added m (ruleWord l p n t)) h)
-
--- how many boundaries a rule adds, by what code counts at each end
-pub added-by : (m : State) (w low high a b : ℕ) → low ≡ lower w → high ≡ upper w
-    → a ≡ pick (isCut (m .cut) (m .atoms) low) 0 1 → b ≡ pick (isCut (m .cut) (m .atoms) high) 0 1 → a + b ≡ added m w
-unfolding added
-added-by m w low high a b e f p q = rw (p, q, e, f)
 
 -- ---- a remove
 

@@ -1,6 +1,6 @@
 -- `link::end_of` meets its contract. Assumes nothing.
-use Rattle.meaning.specs.Hall.{endNumber}
 use borrow.Author.Needs.{needs}
+use Rattle.meaning.specs.Hall.{endNumber}
 use Rattle.hall.proofs.link.end_of.Statement.{statement}
 use Rattle.hall.proofs.link.end_of.Tie as tie
 

@@ -1,8 +1,8 @@
 -- `link::number_of` meets its contract. Assumes nothing.
 use mathlib.Core.Path.{sym, ap}
 use native.Mathlib.Omega.{arith}
-use Rattle.meaning.specs.Hall.{endNumber}
 use borrow.Author.Needs.{needs}
+use Rattle.meaning.specs.Hall.{endNumber}
 use Rattle.hall.proofs.link.number_of.Statement.{statement}
 use Rattle.hall.proofs.link.number_of.Tie as tie
 

@@ -1,6 +1,6 @@
 -- `link::pack` meets its contract. Assumes nothing.
-use Rattle.meaning.specs.Hall.{linkWord}
 use borrow.Author.Needs.{needs}
+use Rattle.meaning.specs.Hall.{linkWord}
 use Rattle.hall.proofs.link.pack.Statement.{statement}
 use Rattle.hall.proofs.link.pack.Tie as tie
 

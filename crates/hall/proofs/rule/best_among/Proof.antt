@@ -1,12 +1,12 @@
 -- `rule::best_among` meets its contract. The loop's invariant: the best of the first j. Assumes nothing.
-use Rattle.hall.proofs.Rules.{best-in-none, best-in-more}
-use Rattle.hall.specs.Gathered.{bestIn}
-use Rattle.meaning.specs.Rule.{rank, covers}
-use lib.ListN.{getD}
+use mathlib.Core.Path.{_≡_}
 use Prim.Native.Nat.{_-_, _≤_}
 use native.Mathlib.Omega.{arith}
-use mathlib.Core.Path.{_≡_}
+use lib.ListN.{getD}
 use borrow.Author.Needs.{needs}
+use Rattle.meaning.specs.Rule.{rank, covers}
+use Rattle.hall.specs.Gathered.{bestIn}
+use Rattle.hall.proofs.Rules.{best-in-none, best-in-more}
 use Rattle.hall.proofs.rule.best_among.Statement.{statement}
 use Rattle.hall.proofs.rule.best_among.Tie as tie
 
@@ -41,7 +41,8 @@ loop-again : tie.Need-loop-again Inv-loop μ-loop
 loop-again c = (search needs, best-in-more _ _ _ _ _ _ (c .before .before .before .loop .inv .1) (c .better-of .ensures .0), search needs)
 
 returns : tie.Need-returns Inv-loop μ-loop
-returns c = let done : c .before .loop .j ≡ c .before .before .args .count = omega arith in
+returns c =
+    let done : c .before .loop .j ≡ c .before .before .args .count = omega arith in
     (rw done at (c .before .loop .inv .1), search needs)
 
 pub best-among-spec : {M : Type 1} → statement M

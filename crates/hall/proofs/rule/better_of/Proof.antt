@@ -1,7 +1,7 @@
 -- `rule::better_of` meets its contract. Each way out is a law of `Ranks`. Assumes nothing.
+use borrow.Author.Needs.{needs}
 use Rattle.meaning.proofs.Ranks.{keep-out, take-first, higher-by, lower-by}
 use Rattle.hall.proofs.Rules.{covers-below, covers-past, covers-between}
-use borrow.Author.Needs.{needs}
 use Rattle.hall.proofs.rule.better_of.Statement.{statement}
 use Rattle.hall.proofs.rule.better_of.Tie as tie
 
@@ -21,11 +21,13 @@ upper-of-requires : tie.Need-upper-of-requires
 upper-of-requires c κs = search needs
 
 returns-2 : tie.Need-returns-2
-returns-2 c = let l = c .before .before .before in
+returns-2 c =
+    let l = c .before .before .before in
     (keep-out _ _ _ _ (covers-past _ _ _ _ (l .lower-of .ensures .0) (c .before .upper-of .ensures .0) (c .if2 .taken)), search needs)
 
 returns-3 : tie.Need-returns-3
-returns-3 c = let u = c .before .before in
+returns-3 c =
+    let u = c .before .before in
     let l = u .before .before in
     (take-first _ _ _ _ (covers-between _ _ _ _ (l .lower-of .ensures .0) (u .upper-of .ensures .0) (u .before .if1 .left) (c .before .if2 .left)) (c .if3 .taken), search needs)
 
@@ -42,7 +44,8 @@ rank-of-requires-2 : tie.Need-rank-of-requires-2
 rank-of-requires-2 c κs = search needs
 
 returns-4 : tie.Need-returns-4
-returns-4 c = let r = c .before .before in
+returns-4 c =
+    let r = c .before .before in
     let n = r .before .before in
     let u = n .before .before in
     let l = u .before .before in
@@ -50,7 +53,8 @@ returns-4 c = let r = c .before .before in
     (higher-by _ _ _ _ _ _ (r .rank-of .ensures .0) (c .before .rank-of2 .ensures .0) in-it (n .if3 .left) (c .if4 .taken), search needs)
 
 returns-5 : tie.Need-returns-5
-returns-5 c = let r = c .before .before in
+returns-5 c =
+    let r = c .before .before in
     let n = r .before .before in
     let u = n .before .before in
     let l = u .before .before in

@@ -1,12 +1,12 @@
 -- `rule::gather` meets its contract. The loop's invariant: the rules below i are gathered. Assumes nothing.
-use Rattle.hall.proofs.Rules.{Gathering, gathered-none, gathered-skip, gathered-take, gathered-all}
-use lib.ListN.{length, length-set}
 use mathlib.Core.Bool.{true≢false}
 use mathlib.Core.Logic.{⊎-elim}
+use mathlib.Core.Path.{_≡_, sym, _∙_}
 use Prim.Native.Nat.{_-_, _≤_}
 use native.Mathlib.Omega.{arith}
-use mathlib.Core.Path.{_≡_, sym, _∙_}
+use lib.ListN.{length, length-set}
 use borrow.Author.Needs.{needs}
+use Rattle.hall.proofs.Rules.{Gathering, gathered-none, gathered-skip, gathered-take, gathered-all}
 use Rattle.hall.proofs.rule.gather.Statement.{statement}
 use Rattle.hall.proofs.rule.gather.Tie as tie
 
@@ -50,7 +50,8 @@ loop-less : tie.Need-loop-less Inv-loop μ-loop
 loop-less c = search needs
 
 loop-again : tie.Need-loop-again Inv-loop μ-loop
-loop-again c = let v = c .before .before .before .before .loop .inv in
+loop-again c =
+    let v = c .before .before .before .before .loop .inv in
     let s = sym (c .before .stands-at .ensures) in (
       search needs,
       ⊎-elim (λ x. rw (x .3) (simp length-set (v .1))) (⊎-elim (λ x. rw (x .3) (v .1)) (λ x. rw (x .1) (v .1))) (c .if1 .came),
@@ -61,7 +62,8 @@ loop-again c = let v = c .before .before .before .before .loop .inv in
     )
 
 returns : tie.Need-returns Inv-loop μ-loop
-returns c = let done : c .before .loop .i ≡ 256 = omega arith in
+returns c =
+    let done : c .before .loop .i ≡ 256 = omega arith in
     gathered-all (rw done at (c .before .loop .inv .2))
 
 pub gather-spec : {M : Type 1} → statement M

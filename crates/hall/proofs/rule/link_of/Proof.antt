@@ -1,6 +1,6 @@
 -- `rule::link_of` meets its contract. Assumes nothing.
-use Rattle.meaning.specs.Rule.{linkOf}
 use borrow.Author.Needs.{needs}
+use Rattle.meaning.specs.Rule.{linkOf}
 use Rattle.hall.proofs.rule.link_of.Statement.{statement}
 use Rattle.hall.proofs.rule.link_of.Tie as tie
 

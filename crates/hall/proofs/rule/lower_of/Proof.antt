@@ -1,6 +1,6 @@
 -- `rule::lower_of` meets its contract. Assumes nothing.
-use Rattle.meaning.specs.Rule.{lower}
 use borrow.Author.Needs.{needs}
+use Rattle.meaning.specs.Rule.{lower}
 use Rattle.hall.proofs.rule.lower_of.Statement.{statement}
 use Rattle.hall.proofs.rule.lower_of.Tie as tie
 

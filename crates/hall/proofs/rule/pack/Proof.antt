@@ -1,6 +1,6 @@
 -- `rule::pack` meets its contract. Assumes nothing.
-use Rattle.meaning.specs.Rule.{ruleWord}
 use borrow.Author.Needs.{needs}
+use Rattle.meaning.specs.Rule.{ruleWord}
 use Rattle.hall.proofs.rule.pack.Statement.{statement}
 use Rattle.hall.proofs.rule.pack.Tie as tie
 

@@ -1,6 +1,6 @@
 -- `rule::rank_of` meets its contract. Assumes nothing.
-use Rattle.meaning.specs.Rule.{rank}
 use borrow.Author.Needs.{needs}
+use Rattle.meaning.specs.Rule.{rank}
 use Rattle.hall.proofs.rule.rank_of.Statement.{statement}
 use Rattle.hall.proofs.rule.rank_of.Tie as tie
 

@@ -1,10 +1,10 @@
 -- `rule::stands_at` meets its contract. Assumes nothing.
-use denote.Ref.{now}
-use lib.ListN.{getD}
-use Prim.Native.Nat.{ℕ, _/_}
-use Rattle.hall.proofs.Rules.{not-standing, stands-there}
 use mathlib.Core.Path.{ap, _∙_}
+use Prim.Native.Nat.{ℕ, _/_}
+use lib.ListN.{getD}
+use denote.Ref.{now}
 use borrow.Author.Needs.{needs}
+use Rattle.hall.proofs.Rules.{not-standing, stands-there}
 use Rattle.hall.proofs.rule.stands_at.Statement.{statement}
 use Rattle.hall.proofs.rule.stands_at.Tie as tie
 
@@ -24,7 +24,8 @@ source-of-requires : tie.Need-source-of-requires
 source-of-requires c κs = search needs
 
 returns-2 : tie.Need-returns-2
-returns-2 c = let b = c .before .before in
+returns-2 c =
+    let b = c .before .before in
     stands-there _ _ _ (b .before .if1 .left) _
     (c .source-of .ensures .0 ∙ ap (λ (l : ℕ). getD (now (b .before .before .args .link)) l 0 / 1024) (b .link-of .ensures .0))
 

@@ -1,14 +1,13 @@
 -- `rule::ties` meets its contract. The loop's invariant: none of the rules below i ties. Assumes nothing.
-use Rattle.hall.proofs.Rules.{any-none, any-more}
-use Rattle.hall.specs.Gathered.{tying}
-use Rattle.meaning.proofs.Members.{any-true}
-use Rattle.meaning.specs.Search.{anyBelow}
-use lib.ListN.{getD}
 use mathlib.Core.Bool.{false}
+use mathlib.Core.Path.{_≡_, sym, _∙_}
 use Prim.Native.Nat.{_-_, _≤_}
 use native.Mathlib.Omega.{arith}
-use mathlib.Core.Path.{_≡_, sym, _∙_}
+use lib.ListN.{getD}
 use borrow.Author.Needs.{needs}
+use Rattle.meaning.specs.Search.{anyBelow}
+use Rattle.meaning.proofs.Members.{any-true, any-none, any-more}
+use Rattle.hall.specs.Gathered.{tying}
 use Rattle.hall.proofs.rule.ties.Statement.{statement}
 use Rattle.hall.proofs.rule.ties.Tie as tie
 
@@ -31,7 +30,8 @@ ties-with-requires : tie.Need-ties-with-requires Inv-loop μ-loop
 ties-with-requires c κs = search needs
 
 returns : tie.Need-returns Inv-loop μ-loop
-returns c = let b = c .before .before in
+returns c =
+    let b = c .before .before in
     sym (any-true _ 256 (b .before .before .loop .i) (omega arith) (sym (c .before .ties-with .ensures) ∙ c .if1 .taken))
 
 add-i : tie.Need-add-i Inv-loop μ-loop
@@ -44,7 +44,8 @@ loop-again : tie.Need-loop-again Inv-loop μ-loop
 loop-again c = (search needs, any-more _ _ (c .before .before .before .before .loop .inv .1) (sym (c .before .ties-with .ensures) ∙ c .if1 .left))
 
 returns-2 : tie.Need-returns-2 Inv-loop μ-loop
-returns-2 c = let done : c .before .loop .i ≡ 256 = omega arith in
+returns-2 c =
+    let done : c .before .loop .i ≡ 256 = omega arith in
     sym (rw done at (c .before .loop .inv .1))
 
 pub ties-spec : {M : Type 1} → statement M

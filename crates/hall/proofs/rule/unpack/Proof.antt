@@ -1,8 +1,8 @@
 -- `rule::unpack` meets its contract. Assumes nothing.
 use mathlib.Core.Logic.{⊎-elim}
 use native.Mathlib.Omega.{arith}
-use Rattle.meaning.specs.Rule.{linkOf, lengthOf, rank, lower}
 use borrow.Author.Needs.{needs}
+use Rattle.meaning.specs.Rule.{linkOf, lengthOf, rank, lower}
 use Rattle.hall.proofs.rule.unpack.Statement.{statement}
 use Rattle.hall.proofs.rule.unpack.Tie as tie
 

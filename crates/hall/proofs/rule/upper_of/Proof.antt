@@ -1,9 +1,9 @@
 -- `rule::upper_of` meets its contract. Assumes nothing.
-use Rattle.meaning.proofs.Words.{shl, shl-le}
-use Rattle.meaning.specs.Rule.{upper}
 use Prim.Native.Nat.{_/_}
 use native.Mathlib.Omega.{arith}
 use borrow.Author.Needs.{needs}
+use Rattle.meaning.specs.Rule.{upper}
+use Rattle.meaning.proofs.Words.{shl, shl-le}
 use Rattle.hall.proofs.rule.upper_of.Statement.{statement}
 use Rattle.hall.proofs.rule.upper_of.Tie as tie
 

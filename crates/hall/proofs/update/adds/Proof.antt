@@ -1,14 +1,11 @@
 -- `update::adds` meets its contract. Assumes nothing.
-use Rattle.meaning.specs.Atoms.{isCut}
-use borrow.Author.Tests.{eq-eqb, ne-eqb}
 use lib.ListN.{getD}
 use denote.Ref.{now}
+use borrow.Author.Tests.{eq-eqb, ne-eqb}
 use borrow.Author.Needs.{needs}
+use Rattle.meaning.specs.Atoms.{isCut}
 use Rattle.hall.proofs.update.adds.Statement.{statement}
 use Rattle.hall.proofs.update.adds.Tie as tie
-use Rattle.hall.proofs.update.adds.Reads as reads
-use Rattle.hall.proofs.update.adds.Lts as lts
-use Rattle.hall.proofs.atom.place_of.Reads as place-of-reads
 
 place-of-requires : tie.Need-place-of-requires
 place-of-requires c κs = search needs

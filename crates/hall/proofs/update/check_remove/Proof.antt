@@ -1,16 +1,14 @@
 -- `update::check_remove` meets its contract. Assumes nothing.
-use Rattle.meaning.proofs.Refusals.{remove-high, remove-free, remove-passes}
-use Rattle.meaning.specs.Step.{checked}
-use Rattle.meaning.specs.Winner.{ruleAt}
-use lib.ListN.{getD}
-use Prim.Native.Nat.{ℕ}
 use mathlib.Core.List.{List}
 use mathlib.Core.Path.{sym, ap, _∙_}
+use Prim.Native.Nat.{ℕ}
+use lib.ListN.{getD}
 use borrow.Author.Needs.{needs}
+use Rattle.meaning.specs.Step.{checked}
+use Rattle.meaning.specs.Winner.{ruleAt}
+use Rattle.meaning.proofs.Refusals.{remove-high, remove-free, remove-passes}
 use Rattle.hall.proofs.update.check_remove.Statement.{statement}
 use Rattle.hall.proofs.update.check_remove.Tie as tie
-use Rattle.hall.proofs.update.check_remove.Reads as reads
-use Rattle.hall.proofs.update.check_remove.Lts as lts
 
 returns : tie.Need-returns
 unfolding checked

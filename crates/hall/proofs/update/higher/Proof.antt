@@ -1,12 +1,9 @@
 -- `update::higher` meets its contract. Assumes nothing.
-use borrow.Author.Tests.{eq-eqb, ne-eqb, lt-ltb, le-ltb}
 use native.Mathlib.Omega.{arith}
+use borrow.Author.Tests.{eq-eqb, ne-eqb, lt-ltb, le-ltb}
 use borrow.Author.Needs.{needs}
 use Rattle.hall.proofs.update.higher.Statement.{statement}
 use Rattle.hall.proofs.update.higher.Tie as tie
-use Rattle.hall.proofs.update.higher.Reads as reads
-use Rattle.hall.proofs.update.higher.Lts as lts
-use Rattle.hall.proofs.rule.rank_of.Reads as rank-of-reads
 
 returns : tie.Need-returns
 returns c = rw (eq-eqb _ _ (c .if1 .taken))

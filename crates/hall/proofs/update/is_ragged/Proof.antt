@@ -1,14 +1,12 @@
 -- `update::is_ragged` meets its contract. Assumes nothing.
-use Rattle.meaning.proofs.Words.{shl-at}
-use Rattle.meaning.specs.Step.{ragged}
-use lib.Pow.{pow-pos}
 use Prim.Native.Nat.{_-_}
 use native.Mathlib.Omega.{arith}
+use lib.Pow.{pow-pos}
 use borrow.Author.Needs.{needs}
+use Rattle.meaning.specs.Step.{ragged}
+use Rattle.meaning.proofs.Words.{shl-at}
 use Rattle.hall.proofs.update.is_ragged.Statement.{statement}
 use Rattle.hall.proofs.update.is_ragged.Tie as tie
-use Rattle.hall.proofs.update.is_ragged.Reads as reads
-use Rattle.hall.proofs.update.is_ragged.Lts as lts
 
 sub-result : tie.Need-sub-result
 sub-result c = search needs

@@ -1,11 +1,9 @@
 -- `update::via_of` meets its contract. Assumes nothing.
-use Rattle.meaning.proofs.Owners.{via}
 use borrow.Author.Tests.{eq-eqb, ne-eqb}
 use borrow.Author.Needs.{needs}
+use Rattle.meaning.proofs.Owners.{via}
 use Rattle.hall.proofs.update.via_of.Statement.{statement}
 use Rattle.hall.proofs.update.via_of.Tie as tie
-use Rattle.hall.proofs.update.via_of.Reads as reads
-use Rattle.hall.proofs.update.via_of.Lts as lts
 
 returns : tie.Need-returns
 unfolding via

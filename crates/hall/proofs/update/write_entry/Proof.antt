@@ -1,14 +1,12 @@
 -- `update::write_entry` meets its contract. Assumes nothing.
-use Rattle.hall.proofs.Entries.{stores-five}
-use lib.ListN.{length-set}
-use denote.Ref.{now}
 use Prim.Native.Nat.{_*_}
 use native.Mathlib.Omega.{arith}
+use lib.ListN.{length-set}
+use denote.Ref.{now}
 use borrow.Author.Needs.{needs}
+use Rattle.hall.proofs.Entries.{stores-five}
 use Rattle.hall.proofs.update.write_entry.Statement.{statement}
 use Rattle.hall.proofs.update.write_entry.Tie as tie
-use Rattle.hall.proofs.update.write_entry.Reads as reads
-use Rattle.hall.proofs.update.write_entry.Lts as lts
 
 mul-i : tie.Need-mul-i
 mul-i c = search needs
