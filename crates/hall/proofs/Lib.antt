@@ -1,3 +1,3 @@
--- The laws of the box's own definitions, for its functions' proofs.
+-- Laws of the box's own relations, which the proofs of its functions cite.
 mod Rules
 mod Entries

@@ -5,6 +5,7 @@ pub mod Places
 pub mod Parted
 pub mod Constant
 pub mod Words
+pub mod Refusals
 pub mod Sound
 pub mod Kept
 pub mod Agree
@@ -18,4 +19,3 @@ pub mod Means
 pub mod Ends
 pub mod Exchange
 pub mod Owners
-pub mod Refusals
