@@ -2,3 +2,5 @@
 mod Gives
 mod Moves
 mod Splits
+mod Rules
+mod Entries

@@ -5,6 +5,7 @@ pub mod Places
 pub mod Parted
 pub mod Constant
 pub mod Words
+pub mod Refusals
 pub mod Sound
 pub mod Kept
 pub mod Agree
