@@ -1,0 +1,2 @@
+-- Laws of the box's own relations, which the proofs of its functions cite.
+mod Sweeping
