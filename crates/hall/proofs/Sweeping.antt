@@ -3,19 +3,19 @@ use mathlib.Core.Path.{_≡_, refl, sym, ap, ap₂, _∙_}
 use mathlib.Core.Bool.{Bool, true, false}
 use mathlib.Core.List.{List, [], _∷_, _++_, append-nil}
 use mathlib.Core.Logic.{_⊎_, inl, inr}
-use Prim.Native.Nat.{ℕ, zero, suc, _+_, _-_, _*_, _/_, _%_, _≤_, _<_}
+use Prim.Native.Nat.{ℕ, suc, _+_, _-_, _*_, _/_, _≤_, _<_}
 use native.Mathlib.Omega.{arith}
 use native.Mathlib.Decide.{ℕ-discrete}
 use lib.Dec.{eqb}
 use lib.ListN.{length, getD, set, take, drop, length-append, length-set}
 use lib.Seq.{sets-eq, take-at, drop-append-add, drop-drop, getD-set-same, getD-set-other}
-use borrow.Author.Tests.{eq-eqb, ne-eqb, eqb-false}
+use borrow.Author.Tests.{eq-eqb, ne-eqb}
 use Rattle.meaning.specs.Search.{pick}
 use Rattle.meaning.specs.Labels.{on}
 use Rattle.meaning.specs.Changes.{overwrite}
 use Rattle.meaning.proofs.Tables.{Numbers}
 use Rattle.meaning.proofs.Places.{Order, less, same, more, order}
-use Rattle.meaning.proofs.Owners.{ownerIn, via, Agrees, Starts}
+use Rattle.meaning.proofs.Owners.{ownerIn, via, Agrees}
 use Rattle.hall.specs.Bits.{Moved}
 use Rattle.hall.specs.Sweep.{Swept, entriesFrom, Wrote, ownerBy, Settled, Ready, SweptAll}
 

@@ -2,12 +2,6 @@
 use borrow.Author.Needs.{needs}
 use Rattle.hall.proofs.update.change_owner.Statement.{statement}
 use Rattle.hall.proofs.update.change_owner.Tie as tie
-use Rattle.hall.proofs.update.change_owner.Reads as reads
-use Rattle.hall.proofs.update.change_owner.Lts as lts
-use Rattle.hall.proofs.atom.atom_at.Reads as atom-at-reads
-use Rattle.hall.proofs.label.move_atom.Reads as move-atom-reads
-use Rattle.hall.proofs.update.via_of.Reads as via-of-reads
-use Rattle.hall.proofs.update.write_entry.Reads as write-entry-reads
 
 atom-at-requires : tie.Need-atom-at-requires
 atom-at-requires c κs = search needs

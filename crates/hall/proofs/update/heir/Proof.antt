@@ -4,10 +4,6 @@ use Rattle.hall.specs.Sweep.{heirOf}
 use borrow.Author.Needs.{needs}
 use Rattle.hall.proofs.update.heir.Statement.{statement}
 use Rattle.hall.proofs.update.heir.Tie as tie
-use Rattle.hall.proofs.update.heir.Reads as reads
-use Rattle.hall.proofs.update.heir.Lts as lts
-use Rattle.hall.proofs.rule.best_among.Reads as best-among-reads
-use Rattle.hall.proofs.update.owner_for.Reads as owner-for-reads
 
 returns : tie.Need-returns
 unfolding heirOf

@@ -5,9 +5,6 @@ use Rattle.hall.specs.Sweep.{raised}
 use borrow.Author.Needs.{needs}
 use Rattle.hall.proofs.update.higher.Statement.{statement}
 use Rattle.hall.proofs.update.higher.Tie as tie
-use Rattle.hall.proofs.update.higher.Reads as reads
-use Rattle.hall.proofs.update.higher.Lts as lts
-use Rattle.hall.proofs.rule.rank_of.Reads as rank-of-reads
 
 returns : tie.Need-returns
 unfolding raised

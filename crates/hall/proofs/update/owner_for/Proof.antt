@@ -5,9 +5,6 @@ use Rattle.hall.specs.Sweep.{ownerFor}
 use borrow.Author.Needs.{needs}
 use Rattle.hall.proofs.update.owner_for.Statement.{statement}
 use Rattle.hall.proofs.update.owner_for.Tie as tie
-use Rattle.hall.proofs.update.owner_for.Reads as reads
-use Rattle.hall.proofs.update.owner_for.Lts as lts
-use Rattle.hall.proofs.rule.link_of.Reads as link-of-reads
 
 returns : tie.Need-returns
 unfolding ownerFor

@@ -1,12 +1,9 @@
 -- `update::settle` meets its contract. Assumes nothing.
-use mathlib.Core.Path.{refl, ap, _∙_}
-use lib.ListN.{length, length-set}
+use mathlib.Core.Path.{refl}
+use lib.ListN.{length-set}
 use borrow.Author.Needs.{needs}
 use Rattle.hall.proofs.update.settle.Statement.{statement}
 use Rattle.hall.proofs.update.settle.Tie as tie
-use Rattle.hall.proofs.update.settle.Reads as reads
-use Rattle.hall.proofs.update.settle.Lts as lts
-use Rattle.hall.proofs.update.change_owner.Reads as change-owner-reads
 
 returns : tie.Need-returns
 returns c = record {
@@ -39,7 +36,7 @@ returns-2 c =
       labels = λ _. u .1 .0;
       words = λ _. u .1 .1;
       more = λ _. refl;
-      size = ap length (u .0) ∙ simp length-set;
+      size = rw (u .0, length-set);
       room = search needs;
       near = (search needs, search needs);
     }

@@ -1,6 +1,6 @@
 -- `update::take_over` meets its contract. The loop's invariant: the places from f to below p are swept, and the list is as long as it was. Assumes nothing.
-use mathlib.Core.Path.{_≡_, refl, ap, _∙_}
-use Prim.Native.Nat.{ℕ, _-_, _≤_}
+use mathlib.Core.Path.{_≡_, refl, _∙_}
+use Prim.Native.Nat.{_-_, _≤_}
 use native.Mathlib.Omega.{arith}
 use lib.ListN.{length}
 use Rattle.hall.specs.Sweep.{ownerBy, raised, SweptAll}
@@ -8,10 +8,6 @@ use Rattle.hall.proofs.Sweeping.{small, may-settle, swept-none, swept-r
 use borrow.Author.Needs.{needs}
 use Rattle.hall.proofs.update.take_over.Statement.{statement}
 use Rattle.hall.proofs.update.take_over.Tie as tie
-use Rattle.hall.proofs.update.take_over.Reads as reads
-use Rattle.hall.proofs.update.take_over.Lts as lts
-use Rattle.hall.proofs.update.higher.Reads as higher-reads
-use Rattle.hall.proofs.update.settle.Reads as settle-reads
 
 abbrev Inv-loop : tie.InvT-loop
 Inv-loop rule cut number label₀ owner₀ list₀ n v mine rank end p₀ k₀ label owner list p k =
@@ -28,9 +24,7 @@ mul-atom : tie.Need-mul-atom Inv-loop μ-loop
 mul-atom c = search needs
 
 element-copy-out-atom : tie.Need-element-copy-out-atom Inv-loop μ-loop
-element-copy-out-atom c =
-    let r = c .before .before .before .pre .0 in
-    omega (arith, r .within, r .few)
+element-copy-out-atom c = search needs
 
 cast-atom : tie.Need-cast-atom Inv-loop μ-loop
 cast-atom c = omega (arith, small (c .before .before .before .before .pre .0) (c .before .loop-test .taken))
@@ -39,19 +33,13 @@ mul-old : tie.Need-mul-old Inv-loop μ-loop
 mul-old c = omega (arith, small (c .before .before .before .before .pre .0) (c .before .loop-test .taken))
 
 add-old : tie.Need-add-old Inv-loop μ-loop
-add-old c =
-    let r = c .before .before .before .before .pre .0 in
-    omega (arith, small r (c .before .loop-test .taken), r .node)
+add-old c = omega (arith, small (c .before .before .before .before .pre .0) (c .before .loop-test .taken))
 
 mul-old-2 : tie.Need-mul-old-2 Inv-loop μ-loop
-mul-old-2 c =
-    let r = c .before .before .before .before .pre .0 in
-    omega (arith, small r (c .before .loop-test .taken), r .node)
+mul-old-2 c = omega (arith, small (c .before .before .before .before .pre .0) (c .before .loop-test .taken))
 
 element-copy-out-old : tie.Need-element-copy-out-old Inv-loop μ-loop
-element-copy-out-old c =
-    let r = c .before .before .before .before .pre .0 in
-    omega (arith, small r (c .before .loop-test .taken), r .node)
+element-copy-out-old c = omega (arith, small (c .before .before .before .before .pre .0) (c .before .loop-test .taken))
 
 higher-requires : tie.Need-higher-requires Inv-loop μ-loop
 higher-requires c κs =

@@ -4,8 +4,6 @@ use Rattle.meaning.proofs.Owners.{via}
 use borrow.Author.Needs.{needs}
 use Rattle.hall.proofs.update.via_of.Statement.{statement}
 use Rattle.hall.proofs.update.via_of.Tie as tie
-use Rattle.hall.proofs.update.via_of.Reads as reads
-use Rattle.hall.proofs.update.via_of.Lts as lts
 
 returns : tie.Need-returns
 unfolding via

@@ -7,8 +7,6 @@ use Rattle.hall.proofs.Sweeping.{wrote}
 use borrow.Author.Needs.{needs}
 use Rattle.hall.proofs.update.write_entry.Statement.{statement}
 use Rattle.hall.proofs.update.write_entry.Tie as tie
-use Rattle.hall.proofs.update.write_entry.Reads as reads
-use Rattle.hall.proofs.update.write_entry.Lts as lts
 
 mul-i : tie.Need-mul-i
 mul-i c = search needs
