@@ -51,12 +51,11 @@ two m p q hp hq n e = go (order q p)
 
 -- ---- the owners
 
-module _ {number owner₀ owner owner′ : List ℕ} {n v f p : ℕ} {g h : ℕ → ℕ} (s : Swept number owner₀ owner n v f p p g h) (numbers : Numbers number n) (node : v < 16) (from : f ≤ p) (within : p < n) where
-  swept-more : Stored owner owner′ (16 * getD number p 0 + v) (h p) → Swept number owner₀ owner′ n v f (p + 1) (p + 1) g h
+module _ {number owner₀ owner owner′ : List ℕ} {n v f p : ℕ} {h : ℕ → ℕ} (s : Swept number owner₀ owner n v f p h) (numbers : Numbers number n) (node : v < 16) (from : f ≤ p) (within : p < n) where
+  swept-more : Stored owner owner′ (16 * getD number p 0 + v) (h p) → Swept number owner₀ owner′ n v f (p + 1) h
   swept-more w = record {
     long = w .long ∙ s .long;
     done = λ q a b. done q a b (ℕ-discrete q p);
-    todo = λ q a b. absurd (omega arith);
     nodes = λ k u hk hu d. w .else (16 * k + u) (λ e. d (omega arith)) ∙ s .nodes k u hk hu d;
     places = λ q hq c. places q hq c;
     past = λ k a b. w .else (16 * k + v) (λ e. omega (arith, numbers .small p within)) ∙ s .past k a b;
@@ -166,7 +165,6 @@ swept-none = record {
   owners = record {
     long = refl;
     done = λ q a b. absurd (omega arith);
-    todo = λ q a b. absurd (omega arith);
     nodes = λ k u hk hu d. refl;
     places = λ q hq c. refl;
     past = λ k a b. refl;
@@ -200,7 +198,7 @@ module _ {cut number label₀ label owner₀ owner list₀ list : List ℕ} {n v
       → SweptAll cut number n v f (p + 1) (ownerBy owner₀ number v) h label₀ label′ owner₀ owner′ list₀ list′ r
   swept-settled {old} {new} {r} {label′} {owner′} {list′} o e s = go (rw (o, e) at s) (ℕ-discrete (ownerBy owner₀ number v p) (h p))
     where
-      more-owners : {after : List ℕ} → Stored owner after (16 * getD number p 0 + v) (h p) → Swept number owner₀ after n v f (p + 1) (p + 1) (ownerBy owner₀ number v) h
+      more-owners : {after : List ℕ} → Stored owner after (16 * getD number p 0 + v) (h p) → Swept number owner₀ after n v f (p + 1) h
       more-owners w = swept-more (swept .owners) (ready .numbers) (ready .node) from (omega (arith, ready .within)) w
 
       go : Settled cut number p v (ownerBy owner₀ number v p) (h p) k label label′ owner owner′ list list′ r → Dec (ownerBy owner₀ number v p ≡ h p)
