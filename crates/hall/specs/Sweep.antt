@@ -1,7 +1,7 @@
 -- A sweep over the places from f to below t, at node v: the owner at place q goes from g q to h q, place by place.
 -- Assumes nothing: these are definitions.
 use mathlib.Core.Path.{_≡_}
-use mathlib.Core.Bool.{Bool, _||_}
+use mathlib.Core.Bool.{_||_}
 use mathlib.Core.Logic.{_⊎_}
 use mathlib.Core.List.{List, [], _∷_, _++_}
 use Prim.Native.Nat.{ℕ, zero, suc, _+_, _-_, _*_, _/_, _%_, _≤_, _<_}
@@ -15,11 +15,10 @@ use Rattle.meaning.proofs.Owners.{ownerIn, via, Agrees, Starts}
 use Rattle.hall.specs.Bits.{Moved}
 use Rattle.hall.specs.Gathered.{bestIn}
 
--- the places below p are done, and nothing but the owners at node v of the places from f to below t moves
-pub record Swept (number owner₀ owner : List ℕ) (n v f p t : ℕ) (g h : ℕ → ℕ) : Type 0 where
+-- the owners at node v of the places from f to below t are those of h, and no other owner moves
+pub record Swept (number owner₀ owner : List ℕ) (n v f t : ℕ) (h : ℕ → ℕ) : Type 0 where
   pub long : length owner ≡ length owner₀
-  pub done : (q : ℕ) → f ≤ q → q < p → ownerIn owner (getD number q 0) v ≡ h q
-  pub todo : (q : ℕ) → p ≤ q → q < t → ownerIn owner (getD number q 0) v ≡ g q
+  pub done : (q : ℕ) → f ≤ q → q < t → ownerIn owner (getD number q 0) v ≡ h q
   pub nodes : (k u : ℕ) → k < 512 → u < 16 → (u ≡ v → ⊥) → ownerIn owner k u ≡ ownerIn owner₀ k u
   pub places : (q : ℕ) → q < n → (q < f) ⊎ (t ≤ q) → ownerIn owner (getD number q 0) v ≡ ownerIn owner₀ (getD number q 0) v
   pub past : (k : ℕ) → n ≤ k → k < 512 → ownerIn owner k v ≡ ownerIn owner₀ k v
@@ -79,9 +78,9 @@ pub record Ready (number owner list : List ℕ) (n v f t : ℕ) : Type 0 where
   pub size : length owner ≡ 8192
   pub room : 2560 ≤ length list
 
--- what a sweep leaves
+-- what a sweep leaves; at each place t on the way it is the sweep's invariant
 pub record SweptAll (cut number : List ℕ) (n v f t : ℕ) (g h : ℕ → ℕ) (label label′ owner owner′ list list′ : List ℕ) (r : ℕ) : Type 0 where
-  pub owners : Swept number owner owner′ n v f t t g h
+  pub owners : Swept number owner owner′ n v f t h
   pub labels : (link : List ℕ) → Agrees link label owner → Starts link owner
       → ((q : ℕ) → f ≤ q → q < t → (h q ≡ 0 → ⊥) → getD link (via (h q)) 0 / 1024 ≡ v) → Agrees link label′ owner′
   pub words : Wrote g h cut number f (t - f) list list′ r
