@@ -3,5 +3,4 @@ mod Gives
 mod Moves
 mod Splits
 mod Rules
-mod Entries
 mod Sweeping

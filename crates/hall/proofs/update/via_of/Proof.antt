@@ -1,12 +1,7 @@
 -- `update::via_of` meets its contract. Assumes nothing.
 use borrow.Author.Tests.{eq-eqb, ne-eqb}
-<<<<<<< HEAD
-use borrow.Author.Needs.{needs}
-use Rattle.meaning.proofs.Owners.{via}
-=======
 use Rattle.meaning.proofs.Owners.{via}
 use borrow.Author.Needs.{needs}
->>>>>>> c1
 use Rattle.hall.proofs.update.via_of.Statement.{statement}
 use Rattle.hall.proofs.update.via_of.Tie as tie
 

@@ -1,12 +1,3 @@
-<<<<<<< HEAD
--- `update::write_entry` meets its contract. Assumes nothing.
-use Prim.Native.Nat.{_*_}
-use native.Mathlib.Omega.{arith}
-use lib.ListN.{length-set}
-use denote.Ref.{now}
-use borrow.Author.Needs.{needs}
-use Rattle.hall.proofs.Entries.{stores-five}
-=======
 -- `update::write_entry` meets its contract: five stores in a row. Assumes nothing.
 use denote.Ref.{now}
 use Prim.Native.Nat.{_*_}
@@ -14,7 +5,6 @@ use native.Mathlib.Omega.{arith}
 use lib.ListN.{length-set}
 use Rattle.hall.proofs.Sweeping.{wrote}
 use borrow.Author.Needs.{needs}
->>>>>>> c1
 use Rattle.hall.proofs.update.write_entry.Statement.{statement}
 use Rattle.hall.proofs.update.write_entry.Tie as tie
 
@@ -67,11 +57,7 @@ same-length : tie.Need-same-length
 same-length c = search needs
 
 returns : tie.Need-returns
-<<<<<<< HEAD
-returns c = stores-five (now (c .args .list)) (5 * c .args .k) _ _ _ _ _ (omega arith)
-=======
 returns c = wrote (now (c .args .list)) (5 * c .args .k) _ _ _ _ _ (omega arith)
->>>>>>> c1
 
 pub write-entry-spec : {M : Type 1} → statement M
 write-entry-spec =
