@@ -4,3 +4,4 @@ mod Moves
 mod Splits
 mod Rules
 mod Sweeping
+mod Clears
