@@ -5,3 +5,4 @@ mod Splits
 mod Rules
 mod Sweeping
 mod Clears
+mod Running
