@@ -18,3 +18,6 @@ pub mod Means
 pub mod Ends
 pub mod Exchange
 pub mod Owners
+pub mod Said
+pub mod Steps
+pub mod Stops
