@@ -21,3 +21,8 @@ pub mod Owners
 pub mod Said
 pub mod Steps
 pub mod Stops
+pub mod Covering
+pub mod Winners
+pub mod Fates
+pub mod Searches
+pub mod Asked
