@@ -26,3 +26,4 @@ pub mod Winners
 pub mod Fates
 pub mod Searches
 pub mod Asked
+pub mod Undone
