@@ -27,3 +27,4 @@ pub mod Fates
 pub mod Searches
 pub mod Asked
 pub mod Undone
+pub mod Boundaries

@@ -24,6 +24,21 @@ use Rattle.meaning.specs.Records.{isKind, bodyOf, recordOf, readOf, phas
 use Rattle.meaning.specs.Step.{Done, when, refusal, leaves, nodeOf, changes, only, answers, accepted, taken, stepBy, stepOf}
 use Rattle.meaning.specs.Run.{Came}
 use Rattle.meaning.specs.Box.{left, leftBy, leftOf}
+use Rattle.meaning.proofs.Words.{Fits, fits}
+
+-- what is read is the record of these bytes, and so its fields have their sizes
+reads-record : (s : List ℕ) (r : Record) (n : ℕ) → readOf s ≡ Got r n → recordOf s ≡ r
+unfolding readOf
+reads-record s r n e = go (eqb (length s) 0) (not (isKind (getD s 0 0))) (ltb (length s) (1 + bodyOf (getD s 0 0))) e
+  where
+    go : (a b c : Bool) → pick a Nothing (pick b (Unread 1) (pick c (Unread 2) (Got (recordOf s) (1 + bodyOf (getD s 0 0))))) ≡ Got r n → recordOf s ≡ r
+    go true b c e = let z : _≡_ {A = ℕ} 0 1 = cc in absurd (omega arith)
+    go false true c e = let z : _≡_ {A = ℕ} 0 1 = cc in absurd (omega arith)
+    go false false true e = let z : _≡_ {A = ℕ} 0 1 = cc in absurd (omega arith)
+    go false false false e = cc
+
+pub reads-fit : (s : List ℕ) (r : Record) (n : ℕ) → readOf s ≡ Got r n → Fits r
+reads-fit s r n e = rw (reads-record s r n e) at (fits s)
 
 -- the number that a record is refused by: 3 where it is out of its order, else by its kind's own checks; or none
 abbrev pub turnedBy : State → Record → Option ℕ

@@ -31,26 +31,12 @@ use Rattle.meaning.proofs.Sound.{Sound, when-none}
 use Rattle.meaning.proofs.Kept.{Clear, clear, sound}
 use Rattle.meaning.proofs.Exchange.{exchanged, exchanged-entry, node-there, rules-back, links-back}
 use Rattle.meaning.proofs.Winners.{insert-stores}
-use Rattle.meaning.proofs.Steps.{Stepped, short, ended, unread, turned, took, stepped, turnedBy, accepts}
+use Rattle.meaning.proofs.Steps.{Stepped, short, ended, unread, turned, took, stepped, turnedBy, reads-fit, accepts}
 
 -- two change lists over the same atoms and ranges, entry by entry, with old and new link exchanged
 pub data Exchanged : List ℕ → List ℕ → Type 0 where
   empty : Exchanged [] []
   entry : (atom lower upper x y : ℕ) {list list′ : List ℕ} → Exchanged list list′ → Exchanged (atom ∷ lower ∷ upper ∷ x ∷ y ∷ list) (atom ∷ lower ∷ upper ∷ y ∷ x ∷ list′)
-
--- what is read is the record of these bytes, and so its fields have their sizes
-reads-record : (s : List ℕ) (r : Record) (n : ℕ) → readOf s ≡ Got r n → recordOf s ≡ r
-unfolding readOf
-reads-record s r n e = go (eqb (length s) 0) (not (isKind (getD s 0 0))) (ltb (length s) (1 + bodyOf (getD s 0 0))) e
-  where
-    go : (a b c : Bool) → pick a Nothing (pick b (Unread 1) (pick c (Unread 2) (Got (recordOf s) (1 + bodyOf (getD s 0 0))))) ≡ Got r n → recordOf s ≡ r
-    go true b c e = let z : _≡_ {A = ℕ} 0 1 = cc in absurd (omega arith)
-    go false true c e = let z : _≡_ {A = ℕ} 0 1 = cc in absurd (omega arith)
-    go false false true e = let z : _≡_ {A = ℕ} 0 1 = cc in absurd (omega arith)
-    go false false false e = cc
-
-pub reads-fit : (s : List ℕ) (r : Record) (n : ℕ) → readOf s ≡ Got r n → Fits r
-reads-fit s r n e = rw (reads-record s r n e) at (fits s)
 
 -- ---- the entries
 
