@@ -28,3 +28,4 @@ pub mod Searches
 pub mod Asked
 pub mod Undone
 pub mod Boundaries
+pub mod Numbering
