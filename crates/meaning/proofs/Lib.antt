@@ -29,3 +29,4 @@ pub mod Asked
 pub mod Undone
 pub mod Boundaries
 pub mod Numbering
+pub mod Updates

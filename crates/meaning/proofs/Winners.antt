@@ -85,49 +85,51 @@ module _ (m : State) (v a : ℕ) where
   unfolding eligible
   eligible-is i s = rw (s .alive, eq-eqb _ _ (s .here), covers-is (ruleAt m i) a .1 (s .from, s .below))
 
-  module _ (c : Came m) where
-    -- THE LAW: rule w is the winner exactly when it serves the address at the node and outranks every other that does
-    pub winner-is : (w : ℕ) → w < 256 → (winner m v a ≡ w) ↔ Outranks m v a w
-    winner-is w h = (there (wins m (sound m c) v a), back (wins m (sound m c) v a))
+  module _ (S : Sound m) where
+    -- no rule serves, or the winner outranks every other that does
+    pub served : ((winner m v a ≡ 256) × ((i : ℕ) → Serves m v a i → ⊥)) ⊎ Outranks m v a (winner m v a)
+    served = go (wins m S v a)
       where
-        R : ℕ → ℕ
-        R i = rank (ruleAt m i)
+        go : ((winner m v a ≡ 256) × ((i : ℕ) → i < 256 → eligible m v a i ≡ true → ⊥)) ⊎ Wins (eligible m v a) (λ i. rank (ruleAt m i)) 256 (winner m v a)
+            → ((winner m v a ≡ 256) × ((i : ℕ) → Serves m v a i → ⊥)) ⊎ Outranks m v a (winner m v a)
+        go (inl x) = inl (x .0, λ i s. x .1 i (s .number) (eligible-is i s))
+        go (inr x) = inr (record { serves = serves _ (x .within) (x .fits); highest = λ i s n. x .highest i (s .number) (eligible-is i s) n })
 
-        Either : Type 0
-        Either = ((winner m v a ≡ 256) × ((i : ℕ) → i < 256 → eligible m v a i ≡ true → ⊥)) ⊎ Wins (eligible m v a) R 256 (winner m v a)
-
-        there : Either → winner m v a ≡ w → Outranks m v a w
-        there (inl x) e = absurd (omega (arith, x .0))
-        there (inr x) e =
-            let y : Wins (eligible m v a) R 256 w = rw e at x in
-            record { serves = serves w h (y .fits); highest = λ i s n. y .highest i (s .number) (eligible-is i s) n }
-
-        back : Either → Outranks m v a w → winner m v a ≡ w
-        back (inl x) o = absurd (x .1 w h (eligible-is w (o .serves)))
-        back (inr x) o =
-            wins-once (eligible m v a) R 256 (winner m v a) w x
-            (record { within = h; fits = eligible-is w (o .serves); highest = λ i l e n. o .highest i (serves i l e) n })
-
-    -- there is no winner exactly when no rule serves the address at the node
-    pub no-winner : (winner m v a ≡ 256) ↔ ((i : ℕ) → Serves m v a i → ⊥)
-    no-winner = (λ e i s. there (wins m (sound m c) v a) e i s, λ f. back (wins m (sound m c) v a) f)
+    -- one rule at most does so
+    pub outranks-once : (w u : ℕ) → Outranks m v a w → Outranks m v a u → w ≡ u
+    outranks-once w u x y = wins-once (eligible m v a) (λ i. rank (ruleAt m i)) 256 w u (win w x) (win u y)
       where
-        Either : Type 0
-        Either = ((winner m v a ≡ 256) × ((i : ℕ) → i < 256 → eligible m v a i ≡ true → ⊥)) ⊎ Wins (eligible m v a) (λ i. rank (ruleAt m i)) 256 (winner m v a)
+        win : (w : ℕ) → Outranks m v a w → Wins (eligible m v a) (λ i. rank (ruleAt m i)) 256 w
+        win w o = record { within = o .serves .number; fits = eligible-is w (o .serves); highest = λ i l e n. o .highest i (serves i l e) n }
 
-        there : Either → winner m v a ≡ 256 → (i : ℕ) → Serves m v a i → ⊥
-        there (inl x) e i s = x .1 i (s .number) (eligible-is i s)
-        there (inr x) e i s = omega (arith, x .within)
+    pub wins-by : (w : ℕ) → Outranks m v a w → winner m v a ≡ w
+    wins-by w o = ⊎-elim (λ (x : (winner m v a ≡ 256) × ((i : ℕ) → Serves m v a i → ⊥)). absurd (x .1 w (o .serves))) (λ x. outranks-once (winner m v a) w x o) served
 
-        back : Either → ((i : ℕ) → Serves m v a i → ⊥) → winner m v a ≡ 256
-        back (inl x) f = x .0
-        back (inr x) f = absurd (f (winner m v a) (serves (winner m v a) (x .within) (x .fits)))
+    pub wins-none : ((i : ℕ) → Serves m v a i → ⊥) → winner m v a ≡ 256
+    wins-none f = ⊎-elim (λ (x : (winner m v a ≡ 256) × ((i : ℕ) → Serves m v a i → ⊥)). x .0) (λ x. absurd (f (winner m v a) (x .serves))) served
 
-    -- no ties: of two rules that serve one address at one node, one outranks the other
-    pub no-tie : (i j : ℕ) → Serves m v a i → Serves m v a j → rank (ruleAt m i) ≡ rank (ruleAt m j) → i ≡ j
-    no-tie i j s t e =
-        sound m c .distinct i j (s .number) (t .number) (s .alive) (t .alive) (s .here ∙ sym (t .here)) e
-        (overlap-is _ _ .1 (a, covers-is _ a .1 (s .from, s .below), covers-is _ a .1 (t .from, t .below)))
+module _ (m : State) (v a : ℕ) (c : Came m) where
+  -- THE LAW: rule w is the winner exactly when it serves the address at the node and outranks every other that does
+  pub winner-is : (w : ℕ) → w < 256 → (winner m v a ≡ w) ↔ Outranks m v a w
+  winner-is w h = (λ e. go e (served m v a (sound m c)), wins-by m v a (sound m c) w)
+    where
+      go : winner m v a ≡ w → ((winner m v a ≡ 256) × ((i : ℕ) → Serves m v a i → ⊥)) ⊎ Outranks m v a (winner m v a) → Outranks m v a w
+      go e (inl x) = absurd (omega (arith, x .0))
+      go e (inr x) = rw e at x
+
+  -- there is no winner exactly when no rule serves the address at the node
+  pub no-winner : (winner m v a ≡ 256) ↔ ((i : ℕ) → Serves m v a i → ⊥)
+  no-winner = (λ e. go e (served m v a (sound m c)), wins-none m v a (sound m c))
+    where
+      go : winner m v a ≡ 256 → ((winner m v a ≡ 256) × ((i : ℕ) → Serves m v a i → ⊥)) ⊎ Outranks m v a (winner m v a) → (i : ℕ) → Serves m v a i → ⊥
+      go e (inl x) = x .1
+      go e (inr x) = absurd (omega (arith, x .serves .number))
+
+  -- no ties: of two rules that serve one address at one node, one outranks the other
+  pub no-tie : (i j : ℕ) → Serves m v a i → Serves m v a j → rank (ruleAt m i) ≡ rank (ruleAt m j) → i ≡ j
+  no-tie i j s t e =
+      sound m c .distinct i j (s .number) (t .number) (s .alive) (t .alive) (s .here ∙ sym (t .here)) e
+      (overlap-is _ _ .1 (a, covers-is _ a .1 (s .from, s .below), covers-is _ a .1 (t .from, t .below)))
 
 -- ---- the rules
 
