@@ -30,3 +30,5 @@ pub mod Undone
 pub mod Boundaries
 pub mod Numbering
 pub mod Updates
+pub mod Lists
+pub mod Sides
