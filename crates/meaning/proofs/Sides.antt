@@ -5,106 +5,88 @@ use mathlib.Core.List.{List, [], _∷_, _++_}
 use Prim.Native.Nat.{ℕ, zero, suc}
 use lib.ListN.{length, replicate}
 use Rattle.meaning.specs.declared.Answer.{Answer}
-use Rattle.meaning.specs.declared.Answer.the-variants.{End, Refused, Ok, Changed, Loop, Went, Yes, No}
-use Rattle.meaning.specs.declared.Fate.the-variants.{Out, Lost}
+use Rattle.meaning.specs.declared.Answer.the-variants.{End, Refused, Ok, Changed, Loop, Went, Yes, No, Tally}
+use Rattle.meaning.specs.declared.Fate.the-variants.{Out, Lost, Round}
 use Rattle.meaning.specs.Hall.{fresh}
 use Rattle.meaning.specs.Step.{stepOf, stepIn}
 use Rattle.meaning.specs.Run.{start, Line, linesFrom, linesOf}
 use Rattle.meaning.proofs.Agree.{lines-in}
 use Rattle.meaning.proofs.Listing.{opened}
 
-unfoldable pub bytes : List ℕ
-bytes =
-    0x02 ∷ 0x00 ∷ 0x00 ∷ 0x00  -- a link before the hall
-    ∷ 0x01 ∷ 0x00  -- no node
-    ∷ 0x01 ∷ 0x11  -- 17 nodes
-    ∷ 0x01 ∷ 0x10  -- 16 nodes
-    ∷ 0x01 ∷ 0x11  -- a second hall, whose count is bad too: 3 before 4
-    ∷ 0x02 ∷ 0x10 ∷ 0x03 ∷ 0x00  -- a source that is no node, and a bad end code: 4 before 7
-    ∷ 0x02 ∷ 0x0F ∷ 0x03 ∷ 0x00  -- a bad end code
-    ∷ 0x02 ∷ 0x0F ∷ 0x02 ∷ 0x01  -- the drop with a number
-    ∷ 0x02 ∷ 0x0F ∷ 0x00 ∷ 0x10  -- an end that is no node
-    ∷ 0x02 ∷ 0x0F ∷ 0x00 ∷ 0x0F  -- link 0, which ends at its own source
-    ∷ 0x02 ∷ 0x00 ∷ 0x01 ∷ 0xFF  -- link 1, to port 255
-    ∷ 0x02 ∷ 0x00 ∷ 0x02 ∷ 0x00  -- link 2, to the drop
-    ∷ 0x06  -- a question before the close
-    ∷ 0x03
-    ∷ 0x03  -- a second close
-    ∷ 0x04 ∷ 0x01 ∷ 0x00 ∷ 0x03 ∷ 0x0A ∷ 0x00 ∷ 0x00 ∷ 0x01 ∷ 0x21 ∷ 0x00 ∷ 0x05  -- rule 256, and all else wrong: 8
-    ∷ 0x04 ∷ 0x00 ∷ 0xFF ∷ 0x03 ∷ 0x0A ∷ 0x00 ∷ 0x00 ∷ 0x01 ∷ 0x21 ∷ 0x00 ∷ 0x05  -- rule 255, a link that is not declared: 5 before 11
-    ∷ 0x04 ∷ 0x00 ∷ 0xFF ∷ 0x02 ∷ 0x0A ∷ 0x00 ∷ 0x00 ∷ 0x00 ∷ 0x21 ∷ 0x00 ∷ 0x05  -- length 33
-    ∷ 0x04 ∷ 0x00 ∷ 0xFF ∷ 0x02 ∷ 0x0A ∷ 0x00 ∷ 0x00 ∷ 0x01 ∷ 0x08 ∷ 0x00 ∷ 0x05  -- 10.0.0.1/8
-    ∷ 0x04 ∷ 0x00 ∷ 0xFF ∷ 0x02 ∷ 0x0A ∷ 0x00 ∷ 0x00 ∷ 0x00 ∷ 0x08 ∷ 0x00 ∷ 0x05  -- 10.0.0.0/8
-    ∷ 0x04 ∷ 0x00 ∷ 0xFF ∷ 0x03 ∷ 0x0A ∷ 0x00 ∷ 0x00 ∷ 0x00 ∷ 0x08 ∷ 0x00 ∷ 0x05  -- rule 255 again, by a link that is not declared: 9 before 5
-    ∷ 0x04 ∷ 0x00 ∷ 0x00 ∷ 0x01 ∷ 0x0A ∷ 0x00 ∷ 0x00 ∷ 0x01 ∷ 0x20 ∷ 0x00 ∷ 0x05  -- a tie
-    ∷ 0x04 ∷ 0x00 ∷ 0x00 ∷ 0x01 ∷ 0x0A ∷ 0x00 ∷ 0x00 ∷ 0x01 ∷ 0x20 ∷ 0x00 ∷ 0x06  -- length 32
-    ∷ 0x04 ∷ 0x00 ∷ 0x01 ∷ 0x01 ∷ 0x0A ∷ 0x00 ∷ 0x00 ∷ 0x00 ∷ 0x08 ∷ 0x00 ∷ 0x04  -- a rule that wins nowhere
-    ∷ 0x04 ∷ 0x00 ∷ 0x02 ∷ 0x00 ∷ 0x0A ∷ 0x00 ∷ 0x00 ∷ 0x00 ∷ 0x08 ∷ 0x00 ∷ 0x05  -- the same prefix and priority at another node
-    ∷ 0x05 ∷ 0x01 ∷ 0x00  -- rule 256
-    ∷ 0x05 ∷ 0x00 ∷ 0x03  -- a rule that is not live
-    ∷ 0x07 ∷ 0x10 ∷ 0x0A ∷ 0x00 ∷ 0x00 ∷ 0x00  -- a fate from no node
-    ∷ 0x07 ∷ 0x00 ∷ 0x0A ∷ 0x00 ∷ 0x00 ∷ 0x01
-    ∷ 0x07 ∷ 0x00 ∷ 0x0A ∷ 0x00 ∷ 0x00 ∷ 0x02
-    ∷ 0x07 ∷ 0x00 ∷ 0xFF ∷ 0xFF ∷ 0xFF ∷ 0xFF
-    ∷ 0x08 ∷ 0x00 ∷ 0x10  -- to no node
-    ∷ 0x08 ∷ 0x05 ∷ 0x05  -- from a node to itself
-    ∷ 0x08 ∷ 0x00 ∷ 0x05
-    ∷ 0x09 ∷ 0x10  -- a tally at no node
-    ∷ 0x06
-    ∷ []
+-- a record's bytes, and what it is answered and writes
+pub record Row : Type 0 where
+  pub bytes : List ℕ
+  pub answer : Answer
+  pub written : List ℕ
 
-unfoldable line : Answer → List ℕ → Line
-line a w = record { answer = a; written = w }
+abbrev row : List ℕ → Answer → List ℕ → Row
+row s a w = record { bytes = s; answer = a; written = w }
 
-unfoldable pub table : List Line
-unfolding line
+-- the records of the rows one after another, and their lines
+unfoldable pub bytesOf : List Row → List ℕ
+bytesOf [] = []
+bytesOf (r ∷ rs) = r .bytes ++ bytesOf rs
+
+unfoldable pub answersOf : List Row → List Line
+answersOf [] = []
+answersOf (r ∷ rs) = record { answer = r .answer; written = r .written } ∷ answersOf rs
+
+unfoldable pub table : List Row
 table =
-    line (Refused 3) []
-    ∷ line (Refused 4) []
-    ∷ line (Refused 4) []
-    ∷ line Ok []
-    ∷ line (Refused 3) []
-    ∷ line (Refused 4) []
-    ∷ line (Refused 7) []
-    ∷ line (Refused 7) []
-    ∷ line (Refused 4) []
-    ∷ line Ok []
-    ∷ line Ok []
-    ∷ line Ok []
-    ∷ line (Refused 3) []
-    ∷ line Ok []
-    ∷ line (Refused 3) []
-    ∷ line (Refused 8) []
-    ∷ line (Refused 5) []
-    ∷ line (Refused 11) []
-    ∷ line (Refused 11) []
-    ∷ line (Changed 1) (1 ∷ 167772160 ∷ 184549376 ∷ 64 ∷ 2 ∷ [])
-    ∷ line (Refused 9) []
-    ∷ line (Refused 12) []
-    ∷ line (Changed 1) (3 ∷ 167772161 ∷ 167772162 ∷ 2 ∷ 1 ∷ [])
-    ∷ line (Changed 0) []
-    ∷ line (Changed 3) (1 ∷ 167772160 ∷ 167772161 ∷ 64 ∷ 0 ∷ 3 ∷ 167772161 ∷ 167772162 ∷ 64 ∷ 0 ∷ 4 ∷ 167772162 ∷ 184549376 ∷ 64 ∷ 0 ∷ [])
-    ∷ line (Refused 8) []
-    ∷ line (Refused 10) []
-    ∷ line (Refused 4) []
-    ∷ line (Went (Out 1 0)) []
-    ∷ line (Went (Lost 0 0)) []
-    ∷ line (Went (Lost 0 0)) []
-    ∷ line (Refused 4) []
-    ∷ line (Yes 0) []
-    ∷ line No []
-    ∷ line (Refused 4) []
-    ∷ line (Loop 167772160 15) []
+    row (0x02 ∷ 0x00 ∷ 0x00 ∷ 0x00 ∷ []) (Refused 3) []  -- a link before the hall
+    ∷ row (0x01 ∷ 0x00 ∷ []) (Refused 4) []  -- no node
+    ∷ row (0x01 ∷ 0x11 ∷ []) (Refused 4) []  -- 17 nodes
+    ∷ row (0x01 ∷ 0x10 ∷ []) Ok []  -- 16 nodes
+    ∷ row (0x01 ∷ 0x11 ∷ []) (Refused 3) []  -- a second hall, with a bad count: 3 before 4
+    ∷ row (0x02 ∷ 0x10 ∷ 0x03 ∷ 0x00 ∷ []) (Refused 4) []  -- a source that is no node, with a bad end code: 4 before 7
+    ∷ row (0x02 ∷ 0x0F ∷ 0x03 ∷ 0x00 ∷ []) (Refused 7) []  -- an end code above 2
+    ∷ row (0x02 ∷ 0x0F ∷ 0x02 ∷ 0x01 ∷ []) (Refused 7) []  -- the drop with a number
+    ∷ row (0x02 ∷ 0x0F ∷ 0x00 ∷ 0x10 ∷ []) (Refused 4) []  -- an end that is no node
+    ∷ row (0x02 ∷ 0x0F ∷ 0x00 ∷ 0x0F ∷ []) Ok []  -- link 0, which ends at its own source
+    ∷ row (0x02 ∷ 0x00 ∷ 0x01 ∷ 0xFF ∷ []) Ok []  -- link 1, to port 255
+    ∷ row (0x02 ∷ 0x00 ∷ 0x02 ∷ 0x00 ∷ []) Ok []  -- link 2, to the drop
+    ∷ row (0x02 ∷ 0x00 ∷ 0x00 ∷ 0x0F ∷ []) Ok []  -- link 3, from node 0 to node 15
+    ∷ row (0x06 ∷ []) (Refused 3) []  -- a question before the close
+    ∷ row (0x03 ∷ []) Ok []  -- the close
+    ∷ row (0x03 ∷ []) (Refused 3) []  -- a second close
+    ∷ row (0x04 ∷ 0x01 ∷ 0x00 ∷ 0x04 ∷ 0x0A ∷ 0x00 ∷ 0x00 ∷ 0x01 ∷ 0x21 ∷ 0x00 ∷ 0x05 ∷ []) (Refused 8) []  -- rule 256, with all else wrong
+    ∷ row (0x04 ∷ 0x00 ∷ 0xFF ∷ 0x04 ∷ 0x0A ∷ 0x00 ∷ 0x00 ∷ 0x01 ∷ 0x21 ∷ 0x00 ∷ 0x05 ∷ []) (Refused 5) []  -- rule 255, by a link that is not declared: 5 before 11
+    ∷ row (0x04 ∷ 0x00 ∷ 0xFF ∷ 0x02 ∷ 0x0A ∷ 0x00 ∷ 0x00 ∷ 0x00 ∷ 0x21 ∷ 0x00 ∷ 0x05 ∷ []) (Refused 11) []  -- length 33
+    ∷ row (0x04 ∷ 0x00 ∷ 0xFF ∷ 0x02 ∷ 0x0A ∷ 0x00 ∷ 0x00 ∷ 0x01 ∷ 0x08 ∷ 0x00 ∷ 0x05 ∷ []) (Refused 11) []  -- 10.0.0.1/8
+    ∷ row (0x04 ∷ 0x00 ∷ 0xFF ∷ 0x02 ∷ 0x0A ∷ 0x00 ∷ 0x00 ∷ 0x00 ∷ 0x08 ∷ 0x00 ∷ 0x05 ∷ []) (Changed 1) (1 ∷ 167772160 ∷ 184549376 ∷ 64 ∷ 2 ∷ [])  -- 10.0.0.0/8
+    ∷ row (0x04 ∷ 0x00 ∷ 0xFF ∷ 0x04 ∷ 0x0A ∷ 0x00 ∷ 0x00 ∷ 0x00 ∷ 0x08 ∷ 0x00 ∷ 0x05 ∷ []) (Refused 9) []  -- rule 255 again, by a link that is not declared: 9 before 5
+    ∷ row (0x04 ∷ 0x00 ∷ 0x00 ∷ 0x01 ∷ 0x0A ∷ 0x00 ∷ 0x00 ∷ 0x01 ∷ 0x20 ∷ 0x00 ∷ 0x05 ∷ []) (Refused 12) []  -- a tie
+    ∷ row (0x04 ∷ 0x00 ∷ 0x00 ∷ 0x01 ∷ 0x0A ∷ 0x00 ∷ 0x00 ∷ 0x01 ∷ 0x20 ∷ 0x00 ∷ 0x06 ∷ []) (Changed 1) (3 ∷ 167772161 ∷ 167772162 ∷ 2 ∷ 1 ∷ [])  -- length 32
+    ∷ row (0x04 ∷ 0x00 ∷ 0x01 ∷ 0x01 ∷ 0x0A ∷ 0x00 ∷ 0x00 ∷ 0x00 ∷ 0x08 ∷ 0x00 ∷ 0x04 ∷ []) (Changed 0) []  -- a rule that wins nowhere
+    ∷ row (0x04 ∷ 0x00 ∷ 0x02 ∷ 0x00 ∷ 0x0A ∷ 0x00 ∷ 0x00 ∷ 0x00 ∷ 0x08 ∷ 0x00 ∷ 0x05 ∷ []) (Changed 3) (1 ∷ 167772160 ∷ 167772161 ∷ 64 ∷ 0 ∷ 3 ∷ 167772161 ∷ 167772162 ∷ 64 ∷ 0 ∷ 4 ∷ 167772162 ∷ 184549376 ∷ 64 ∷ 0 ∷ [])  -- the same prefix and priority at another node
+    ∷ row (0x04 ∷ 0x00 ∷ 0x03 ∷ 0x00 ∷ 0x09 ∷ 0x00 ∷ 0x00 ∷ 0x00 ∷ 0x08 ∷ 0x00 ∷ 0x01 ∷ []) (Changed 1) (5 ∷ 150994944 ∷ 167772160 ∷ 64 ∷ 0 ∷ [])  -- an atom below the others, numbered after them
+    ∷ row (0x04 ∷ 0x00 ∷ 0x04 ∷ 0x00 ∷ 0x09 ∷ 0x00 ∷ 0x00 ∷ 0x00 ∷ 0x08 ∷ 0x00 ∷ 0x02 ∷ []) (Changed 1) (5 ∷ 150994944 ∷ 167772160 ∷ 0 ∷ 0 ∷ [])  -- another rule wins by the same link
+    ∷ row (0x04 ∷ 0x00 ∷ 0x05 ∷ 0x03 ∷ 0x09 ∷ 0x00 ∷ 0x00 ∷ 0x00 ∷ 0x08 ∷ 0x00 ∷ 0x01 ∷ []) (Changed 1) (5 ∷ 150994944 ∷ 167772160 ∷ 64 ∷ 3 ∷ [])  -- node 0 leads into the circle at node 15
+    ∷ row (0x05 ∷ 0x01 ∷ 0x00 ∷ []) (Refused 8) []  -- rule 256
+    ∷ row (0x05 ∷ 0x00 ∷ 0x06 ∷ []) (Refused 10) []  -- a rule that is not live
+    ∷ row (0x07 ∷ 0x10 ∷ 0x0A ∷ 0x00 ∷ 0x00 ∷ 0x00 ∷ []) (Refused 4) []  -- from no node
+    ∷ row (0x07 ∷ 0x00 ∷ 0x0A ∷ 0x00 ∷ 0x00 ∷ 0x01 ∷ []) (Went (Out 1 0)) []  -- by the port
+    ∷ row (0x07 ∷ 0x00 ∷ 0x0A ∷ 0x00 ∷ 0x00 ∷ 0x02 ∷ []) (Went (Lost 0 0)) []  -- by the drop
+    ∷ row (0x07 ∷ 0x00 ∷ 0xFF ∷ 0xFF ∷ 0xFF ∷ 0xFF ∷ []) (Went (Lost 0 0)) []  -- by no rule
+    ∷ row (0x07 ∷ 0x00 ∷ 0x09 ∷ 0x00 ∷ 0x00 ∷ 0x00 ∷ []) (Went Round) []  -- into the circle
+    ∷ row (0x06 ∷ []) (Loop 150994944 15) []  -- the lowest address, which has the highest number, and the node on the circle
+    ∷ row (0x08 ∷ 0x10 ∷ 0x00 ∷ []) (Refused 4) []  -- from no node
+    ∷ row (0x08 ∷ 0x00 ∷ 0x10 ∷ []) (Refused 4) []  -- to no node
+    ∷ row (0x08 ∷ 0x05 ∷ 0x05 ∷ []) (Yes 0) []  -- from a node to itself
+    ∷ row (0x08 ∷ 0x00 ∷ 0x0F ∷ []) (Yes 150994944) []  -- into the circle
+    ∷ row (0x08 ∷ 0x00 ∷ 0x05 ∷ []) No []  -- to a node that no link ends at
+    ∷ row (0x09 ∷ 0x10 ∷ []) (Refused 4) []  -- at no node
+    ∷ row (0x09 ∷ 0x00 ∷ []) (Tally 1 4278190079 16777216) []  -- lost by the drop or by no rule
     ∷ []
 
-by-places : linesFrom stepIn 2560 (length bytes) fresh bytes ≡ table
-unfolding bytes line table opened
+by-places : linesFrom stepIn 2560 (length (bytesOf table)) fresh (bytesOf table) ≡ answersOf table
+unfolding bytesOf answersOf table opened
 by-places = refl
 
 -- THE TABLE
-pub sides : linesOf 2560 bytes ≡ table
+pub sides : linesOf 2560 (bytesOf table) ≡ answersOf table
 unfolding linesOf
-sides = lines-in 2560 (length bytes) fresh bytes start ∙ by-places
+sides = lines-in 2560 (length (bytesOf table)) fresh (bytesOf table) start ∙ by-places
 
 -- ---- link 64 passes, link 65 gives 6
 
