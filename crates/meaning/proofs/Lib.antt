@@ -32,3 +32,4 @@ pub mod Numbering
 pub mod Updates
 pub mod Lists
 pub mod Sides
+pub mod Refusals
