@@ -24,7 +24,7 @@ use Rattle.meaning.specs.Hall.{State, sourceOf}
 use Rattle.meaning.specs.Winner.{better, ruleAt, eligible, winner}
 use Rattle.meaning.proofs.Places.{le-or-lt}
 use Rattle.meaning.proofs.Words.{link-of}
-use Rattle.meaning.proofs.Refusals.{rule-clashes, cuts-many, passes}
+use Rattle.meaning.proofs.Checks.{rule-clashes, cuts-many, passes}
 use Rattle.meaning.proofs.Ranks.{Wins, keep-out, take-first, take-higher, keep-lower}
 use Rattle.meaning.proofs.Members.{and-both}
 use Rattle.meaning.proofs.Means.{wins}

@@ -5,6 +5,7 @@ pub mod Places
 pub mod Parted
 pub mod Constant
 pub mod Words
+pub mod Checks
 pub mod Refusals
 pub mod Sound
 pub mod Kept
@@ -28,3 +29,17 @@ pub mod Numbered
 pub mod Labelled
 pub mod Reading
 pub mod Splitting
+pub mod Said
+pub mod Steps
+pub mod Stops
+pub mod Covering
+pub mod Winners
+pub mod Fates
+pub mod Searches
+pub mod Asked
+pub mod Undone
+pub mod Boundaries
+pub mod Numbering
+pub mod Updates
+pub mod Lists
+pub mod Sides

@@ -4,7 +4,7 @@ use native.Mathlib.Omega.{arith}
 use borrow.Author.Needs.{needs}
 use Rattle.meaning.specs.Step.{checked}
 use Rattle.meaning.specs.Winner.{ruleAt}
-use Rattle.meaning.proofs.Refusals.{number-high, number-live, link-unknown, length-high, prefix-ragged}
+use Rattle.meaning.proofs.Checks.{number-high, number-live, link-unknown, length-high, prefix-ragged}
 use Rattle.hall.proofs.Rules.{insert-ties, insert-full, insert-passes}
 use Rattle.hall.proofs.update.check_insert.Statement.{statement}
 use Rattle.hall.proofs.update.check_insert.Tie as tie
