@@ -1,15 +1,22 @@
 -- One move by the tables, and the questions about a walk as code asks them: move by move. Assumes nothing.
 use mathlib.Core.Path.{_≡_, refl, sym, ap, _∙_}
+use mathlib.Core.Logic.{⊎-elim}
 use mathlib.Core.Bool.{Bool, true, false}
 use mathlib.Core.List.{List}
 use mathlib.Core.Option.{Option, none, some}
-use Prim.Native.Nat.{ℕ, suc, _/_, _%_, _≤_, _<_}
+use Prim.Native.Nat.{ℕ, suc, _+_, _/_, _%_, _≤_, _<_}
+use native.Mathlib.Numerals.{add-one}
 use native.Mathlib.Omega.{arith}
+use borrow.Author.Count.{below-more}
 use lib.Dec.{ltb, eqb}
 use borrow.Author.Tests.{lt-ltb, le-ltb, eq-eqb, ne-eqb}
-use Rattle.meaning.specs.Search.{pick}
-use Rattle.meaning.specs.Walk.{Place, at, out, lost, arrive, leave, move, after, standsAt}
+use Rattle.meaning.specs.Search.{pick, anyBelow}
+use Rattle.meaning.specs.Walk.{Place, at, out, lost, arrive, leave, move, after, standsAt, onCircle, comesTo}
 use Rattle.meaning.proofs.Walks.{after-suc, going-le}
+use Rattle.meaning.proofs.Places.{le-or-lt}
+use Rattle.meaning.proofs.Members.{any-true}
+use Rattle.meaning.proofs.Idle.{any-off}
+use Rattle.meaning.proofs.Means.{at-stands}
 use Rattle.meaning.proofs.Owners.{ownerIn, viaLink, nextIn}
 
 -- a place that is no node
@@ -42,24 +49,70 @@ module _ (owner : List ℕ) (k v : ℕ) (h : v < 16) where
         let x : ℕ = ownerIn owner k v / 512 % 64 in
         apart v x w (ltb (end x) 512) (sym (ap (leave end v) (next-some n) ∙ ap (λ (t : Bool). pick t (at (end x)) (pick (ltb (end x) 512) (out x) (lost v))) (le-ltb (end x) 256 l)) ∙ q)
 
-module _ (next : ℕ → Option ℕ) (end : ℕ → ℕ) (p : Place) (i u : ℕ) (here : after next end i p ≡ at u) where
-  -- one move more
-  pub step-to : (w : ℕ) → move next end (at u) ≡ at w → after next end (suc i) p ≡ at w
-  step-to w e = after-suc next end i p ∙ ap (move next end) here ∙ e
+-- some number below n has P, where those below i have not
+module _ (P : ℕ → Bool) (n i : ℕ) (before : (k : ℕ) → k < i → P k ≡ false) where
+  none-after : ((k : ℕ) → i ≤ k → P k ≡ false) → anyBelow n P ≡ false
+  none-after off = any-off P n (λ k h. ⊎-elim (λ (l : i ≤ k). off k l) (λ (l : k < i). before k l) (le-or-lt i k))
 
-  -- where no move leads on, the packet stands nowhere later
-  pub stopped : ((w : ℕ) → move next end (at u) ≡ at w → ⊥) → (k w : ℕ) → i < k → standsAt w (after next end k p) ≡ false
+  pub none-below : n ≤ i → anyBelow n P ≡ false
+  none-below h = any-off P n (λ k l. before k (omega arith))
+
+-- the walk from v, which stands at u after i moves
+module _ (next : ℕ → Option ℕ) (end : ℕ → ℕ) (v i u : ℕ) (here : after next end i (at v) ≡ at u) where
+  -- one move more
+  pub step-to : (w : ℕ) → move next end (at u) ≡ at w → after next end (i + 1) (at v) ≡ at w
+  step-to w e = rw add-one (after-suc next end i (at v) ∙ ap (move next end) here ∙ e)
+
+  -- where no move leads on, it stands nowhere later
+  stopped : ((w : ℕ) → move next end (at u) ≡ at w → ⊥) → (k w : ℕ) → i < k → standsAt w (after next end k (at v)) ≡ false
   unfolding standsAt
-  stopped off k w l = go (after next end k p) refl
+  stopped off k w l = go (after next end k (at v)) refl
     where
-      go : (q : Place) → after next end k p ≡ q → standsAt w q ≡ false
+      go : (q : Place) → after next end k (at v) ≡ q → standsAt w q ≡ false
       go (out x) e = refl
       go (lost x) e = refl
       go (at x) e =
-          let g = going-le next end p (suc i) k l (x, e) in
-          absurd (off (g .0) (sym (ap (move next end) here) ∙ sym (after-suc next end i p) ∙ g .1))
+          let g = going-le next end (at v) (suc i) k l (x, e) in
+          absurd (off (g .0) (sym (ap (move next end) here) ∙ sym (after-suc next end i (at v)) ∙ g .1))
 
--- a packet that stands at another node
-pub stands-not : (w u : ℕ) (p : Place) → p ≡ at u → (u ≡ w → ⊥) → standsAt w p ≡ false
-unfolding standsAt
-stands-not w u p e n = ap (standsAt w) e ∙ ne-eqb u w n
+  -- it stands at w now, or not
+  stands-now : (w : ℕ) → u ≡ w → standsAt w (after next end i (at v)) ≡ true
+  stands-now w e = at-stands w _ (here ∙ ap at e)
+
+  stands-not : (w : ℕ) → (u ≡ w → ⊥) → standsAt w (after next end i (at v)) ≡ false
+  unfolding standsAt
+  stands-not w n = ap (standsAt w) here ∙ ne-eqb u w n
+
+-- whether the walk comes to w, asked node by node
+module _ (next : ℕ → Option ℕ) (end : ℕ → ℕ) (v w : ℕ) where
+  abbrev pub NotYet : ℕ → Type 0
+  NotYet i = (k : ℕ) → k < i → standsAt w (after next end k (at v)) ≡ false
+
+  module _ (i u : ℕ) (here : after next end i (at v) ≡ at u) where
+    pub comes-now : (n : ℕ) → i < n → u ≡ w → comesTo next end n v w ≡ true
+    unfolding comesTo
+    comes-now n l e = any-true _ n i l (stands-now next end v i u here w e)
+
+    pub not-now : NotYet i → (u ≡ w → ⊥) → NotYet (i + 1)
+    not-now f n = below-more _ _ f (stands-not next end v i u here w n)
+
+    pub comes-never : NotYet (i + 1) → ((x : ℕ) → move next end (at u) ≡ at x → ⊥) → (n : ℕ) → comesTo next end n v w ≡ false
+    unfolding comesTo
+    comes-never f off n = none-after _ n (i + 1) f (λ k l. stopped next end v i u here off k w (omega arith))
+
+-- whether moves, one at least, lead back to v
+module _ (next : ℕ → Option ℕ) (end : ℕ → ℕ) (v : ℕ) where
+  abbrev pub NotBack : ℕ → Type 0
+  NotBack i = (k : ℕ) → k < i → standsAt v (after next end (suc k) (at v)) ≡ false
+
+  module _ (i u : ℕ) (here : after next end i (at v) ≡ at u) where
+    pub back-now : (n w : ℕ) → i < n → move next end (at u) ≡ at w → w ≡ v → onCircle next end n v ≡ true
+    unfolding onCircle
+    back-now n w l e q = any-true _ n i l (stands-now next end v (suc i) w (rw add-one at (step-to next end v i u here w e)) v q)
+
+    pub not-back : NotBack i → (w : ℕ) → move next end (at u) ≡ at w → (w ≡ v → ⊥) → NotBack (i + 1)
+    not-back f w e n = below-more _ _ f (stands-not next end v (suc i) w (rw add-one at (step-to next end v i u here w e)) v n)
+
+    pub back-never : NotBack i → ((x : ℕ) → move next end (at u) ≡ at x → ⊥) → (n : ℕ) → onCircle next end n v ≡ false
+    unfolding onCircle
+    back-never f off n = none-after _ n i f (λ k l. stopped next end v i u here off (suc k) v (omega arith))

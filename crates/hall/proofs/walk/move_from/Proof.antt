@@ -1,58 +1,46 @@
+-- `walk::move_from` meets its contract: the owner's link leads to a node or to an end. Assumes nothing.
 use borrow.Author.Needs.{needs}
 use Rattle.meaning.proofs.Owners.{endIn}
 use Rattle.meaning.proofs.Steps.{no-owner, to-node, to-end}
 use Rattle.hall.specs.Moves.{led}
 use Rattle.hall.proofs.walk.move_from.Statement.{statement}
 use Rattle.hall.proofs.walk.move_from.Tie as tie
-use Rattle.hall.proofs.walk.move_from.Reads as reads
-use Rattle.hall.proofs.walk.move_from.Lts as lts
 
--- src/walk.rt:66:19
 mul-e : tie.Need-mul-e
 mul-e c = search needs
 
--- src/walk.rt:66:19
 add-e : tie.Need-add-e
 add-e c = search needs
 
--- src/walk.rt:66:13
 mul-e-2 : tie.Need-mul-e-2
 mul-e-2 c = search needs
 
--- src/walk.rt:66:13
 element-copy-out-e : tie.Need-element-copy-out-e
 element-copy-out-e c = search needs
 
--- src/walk.rt:68:9
 returns : tie.Need-returns
 unfolding led
 returns c = no-owner _ _ _ (c .before .before .pre .1) _ (c .if1 .taken)
 
--- src/walk.rt:70:13
 cast-l : tie.Need-cast-l
 cast-l c = search needs
 
--- src/walk.rt:71:15
 mul-end : tie.Need-mul-end
 mul-end c = search needs
 
--- src/walk.rt:71:15
 element-copy-out-end : tie.Need-element-copy-out-end
 element-copy-out-end c = search needs
 
--- src/walk.rt:73:24
 cast-t19 : tie.Need-cast-t19
 cast-t19 c = search needs
 
--- src/walk.rt:73:9
 returns-2 : tie.Need-returns-2
 unfolding led endIn
-returns-2 c = 
+returns-2 c =
     let s = c .before .before .before .before in
     let n = c .before .before .if1 .left in
     (to-node _ _ _ (s .pre .1) _ n (c .if2 .taken), s .pre .2 .inside _ _ (s .pre .0) (s .pre .1) n (c .if2 .taken))
 
--- src/walk.rt:62:1
 returns-3 : tie.Need-returns-3
 unfolding led endIn
 returns-3 c = to-end _ _ _ (c .before .before .before .before .pre .1) _ (c .before .before .if1 .left) (c .if2 .left)
