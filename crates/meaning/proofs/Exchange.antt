@@ -29,7 +29,7 @@ use Rattle.meaning.proofs.Members.{any-true, any-some}
 use Rattle.meaning.proofs.Walks.{Going, Closed, Reaches, going-le, again, meets}
 use Rattle.meaning.proofs.Means.{stands-at, at-stands}
 
-eqb-comm : (a b : ℕ) → eqb a b ≡ eqb b a
+pub eqb-comm : (a b : ℕ) → eqb a b ≡ eqb b a
 eqb-comm a b = go (ℕ-discrete a b)
   where
     go : Dec (a ≡ b) → eqb a b ≡ eqb b a

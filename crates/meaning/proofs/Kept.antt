@@ -219,7 +219,7 @@ clear m r l p n t ok =
 
 -- a state with b made a boundary
 module _ (m : State) (S : Sound m) (b : ℕ) (bt : b ≤ top) (room : isCut (m .cut) (m .atoms) b ≡ false → m .atoms < 512) where
-  keeps-cut : Sound (withCut m b)
+  pub keeps-cut : Sound (withCut m b)
   unfolding withCut ruleAt sourceOf endOf
   keeps-cut = record {
     cuts = split-cuts top (m .cut) (m .atoms) b (S .cuts) bt room;

@@ -144,7 +144,7 @@ starts m label owner W = record {
 
 -- ---- the labels
 
-via-none : via 0 ≡ 64
+pub via-none : via 0 ≡ 64
 unfolding via
 via-none = refl
 
@@ -165,7 +165,7 @@ module _ (m : State) (S : Sound m) where
       ap (λ (t : Bool). t && names (nextAt m (getD (m .cut) p 0) (sourceOf m l)) l) (ne-eqb (getD (m .number) p 0) k (λ e. omega (arith, S .numbers .small p hp))))
 
   -- every link's source is a node, and 0 for a link that is not declared
-  source-small : (l : ℕ) → sourceOf m l < 16
+  pub source-small : (l : ℕ) → sourceOf m l < 16
   source-small l = go (decLt l (m .links))
     where
       go : Dec (l < m .links) → sourceOf m l < 16

@@ -19,8 +19,10 @@ pub mod Ends
 pub mod Exchange
 pub mod Owners
 pub mod Bits
+pub mod Searches
 pub mod LabelWords
 pub mod Idle
 pub mod Numbered
 pub mod Labelled
 pub mod Steps
+pub mod Splitting

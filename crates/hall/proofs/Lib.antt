@@ -1,0 +1,3 @@
+-- Laws of the box's own relations, which the proofs of its functions cite.
+mod Gives
+mod Moves
