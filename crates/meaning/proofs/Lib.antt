@@ -26,3 +26,4 @@ pub mod Numbered
 pub mod Labelled
 pub mod Steps
 pub mod Splitting
+pub mod Asked
