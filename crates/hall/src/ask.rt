@@ -1,5 +1,6 @@
 // The questions: fate, loop, reach and tally, each over the atoms by rising address.
 use crate::atom::Place;
+use crate::walk::Seen;
 use meaning::Answer;
 use meaning::Fate;
 use meaning::Hall;
@@ -52,11 +53,17 @@ pub fn find_loop(
     let mut p: usize = 0;
     'search: while p < atoms {
         let atom = crate::atom::atom_at(number, Place(p)).0 as usize;
+        let mut off: u16 = 0;
         let mut v: u8 = 0;
         while v < nodes {
-            if crate::walk::on_circle(link, owner, atom, nodes, v) {
-                answer = Answer::Loop(cut[p], v);
-                break 'search;
+            match crate::walk::look(link, owner, atom, nodes, v, off) {
+                Seen::Circle => {
+                    answer = Answer::Loop(cut[p], v);
+                    break 'search;
+                }
+                Seen::Off(more) => {
+                    off = more;
+                }
             }
             v += 1;
         }

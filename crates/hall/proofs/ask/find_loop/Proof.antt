@@ -1,20 +1,23 @@
 -- `ask::find_loop` meets its contract. The outer loop's invariant: no loop is found, and at no place below p a node lies on a circle.
--- The inner loop's: nor at place p a node below v. Assumes nothing.
+-- The inner loop's: nor at place p a node below v or a node of `off`. Assumes nothing.
 use borrow.Author.Needs.{needs}
 use mathlib.Core.Path.{_≡_, refl, sym, _∙_}
 use Prim.Native.Nat.{ℕ, _-_, _≤_, _<_}
 use native.Mathlib.Omega.{arith}
 use borrow.Author.Count.{below-more}
 use Rattle.meaning.specs.declared.Answer.the-variants.{NoLoop}
-use Rattle.meaning.proofs.Asked.{NoCircle, small-atom, ends-of, loop-none, loop-is}
+use Rattle.meaning.proofs.Owners.{endIn}
+use Rattle.meaning.proofs.Steps.{Off, nobody}
+use Rattle.meaning.proofs.Asked.{linksAt, NoCircle, small-atom, ends-of, loop-none, loop-is}
+use Rattle.hall.specs.Moves.{seen}
 use Rattle.hall.proofs.ask.find_loop.Statement.{statement}
 use Rattle.hall.proofs.ask.find_loop.Tie as tie
 
 abbrev Inv-loop : tie.InvT-loop
-Inv-loop link rule cut number label owner atoms nodes answer₀ p atom v₀ answer v = (v ≤ nodes) × (answer ≡ NoLoop) × NoCircle link number owner nodes p v
+Inv-loop link rule cut number label owner atoms nodes answer₀ p atom off₀ v₀ answer off v = (v ≤ nodes) × (answer ≡ NoLoop) × NoCircle link number owner nodes p v × Off (linksAt number owner p) (endIn link) nodes off
 
 abbrev μ-loop : tie.MeasureT-loop
-μ-loop link rule cut number label owner atoms nodes answer₀ p atom v₀ answer v = nodes - v
+μ-loop link rule cut number label owner atoms nodes answer₀ p atom off₀ v₀ answer off v = nodes - v
 
 abbrev Inv-search : tie.InvT-search
 Inv-search link rule cut number label owner atoms nodes answer₀ p₀ answer p = (p ≤ atoms) × (answer ≡ NoLoop) × ((q : ℕ) → q < p → NoCircle link number owner nodes q nodes)
@@ -35,20 +38,25 @@ cast-atom : tie.Need-cast-atom Inv-loop μ-loop Inv-search μ-search
 cast-atom c = search needs
 
 loop-holds : tie.Need-loop-holds Inv-loop μ-loop Inv-search μ-search
-loop-holds c = (omega arith, c .before .before .before .search .inv .1, λ u l. absurd (omega arith))
+loop-holds c = (omega arith, c .before .before .before .search .inv .1, (λ u l. absurd (omega arith)), nobody _ _ _)
 
-on-circle-requires : tie.Need-on-circle-requires Inv-loop μ-loop Inv-search μ-search
-on-circle-requires c κs =
+look-requires : tie.Need-look-requires Inv-loop μ-loop Inv-search μ-search
+look-requires c κs =
     let a = c .before .before .before in
     let W = a .before .before .before .before .pre in
-    let q : a .atom-at .result .0 < 512 = rw (a .atom-at .ensures) (small-atom _ _ _ W _ (omega arith)) in
-    (q, omega (arith, W .sound .small), W .sound .small, ends-of _ _ _ W)
+    rw (a .atom-at .ensures) (small-atom _ _ _ W _ (omega arith), omega (arith, W .sound .small), W .sound .small, ends-of _ _ _ W, c .before .loop .inv .3)
 
-mul-t19 : tie.Need-mul-t19 Inv-loop μ-loop Inv-search μ-search
-mul-t19 c = omega (arith, c .before .before .before .before .before .before .before .before .before .pre .sound .cuts .room)
+enum-told : tie.Need-enum-told Inv-loop μ-loop Inv-search μ-search
+enum-told c = search needs
 
-element-copy-out-t22 : tie.Need-element-copy-out-t22 Inv-loop μ-loop Inv-search μ-search
-element-copy-out-t22 c = omega (arith, c .before .before .before .before .before .before .before .before .before .pre .sound .cuts .room)
+mul-t21 : tie.Need-mul-t21 Inv-loop μ-loop Inv-search μ-search
+mul-t21 c = omega (arith, c .before .before .before .before .before .before .before .before .before .before .pre .sound .cuts .room)
+
+element-copy-out-t24 : tie.Need-element-copy-out-t24 Inv-loop μ-loop Inv-search μ-search
+element-copy-out-t24 c = omega (arith, c .before .before .before .before .before .before .before .before .before .before .pre .sound .cuts .room)
+
+enum-known-more : tie.Need-enum-known-more Inv-loop μ-loop Inv-search μ-search
+enum-known-more c = search needs
 
 add-v : tie.Need-add-v Inv-loop μ-loop Inv-search μ-search
 add-v c = search needs
@@ -57,10 +65,11 @@ loop-less : tie.Need-loop-less Inv-loop μ-loop Inv-search μ-search
 loop-less c = search needs
 
 loop-again : tie.Need-loop-again Inv-loop μ-loop Inv-search μ-search
+unfolding seen
 loop-again c =
-    let l = c .before .before .before in
-    let e = rw (l .before .before .atom-at .ensures) at (sym (c .before .on-circle .ensures) ∙ c .if1 .left) in
-    (omega arith, l .loop .inv .1, below-more _ _ (l .loop .inv .2) e)
+    let l = c .before .before .before .before .before in
+    let q = rw (c .before .more .given .1, l .before .before .atom-at .ensures) at (c .before .before .before .look .ensures) in
+    (omega arith, l .loop .inv .1, below-more _ _ (l .loop .inv .2) (q .0), q .1)
 
 add-p : tie.Need-add-p Inv-loop μ-loop Inv-search μ-search
 add-p c = search needs
@@ -80,11 +89,12 @@ returns c =
     s .search .inv .1 ∙ sym (loop-none _ _ _ (s .before .before .pre) (λ q h. s .search .inv .2 q (omega arith)))
 
 returns-2 : tie.Need-returns-2 Inv-loop μ-loop Inv-search μ-search
+unfolding seen
 returns-2 c =
-    let l = c .before .before .before .before in
+    let l = c .before .before .before .before .before in
     let s = l .before .before .before .before in
-    let e = rw (l .before .before .atom-at .ensures) at (sym (c .before .before .on-circle .ensures) ∙ c .before .if1 .taken) in
-    sym (loop-is _ _ _ (s .before .before .pre) _ _ (omega arith) (omega arith) (s .search .inv .2) (l .loop .inv .2) e)
+    let q = rw (c .before .enum-told .given .1, l .before .before .atom-at .ensures) at (c .before .before .before .look .ensures) in
+    sym (loop-is _ _ _ (s .before .before .pre) _ _ (omega arith) (omega arith) (s .search .inv .2) (l .loop .inv .2) q)
 
 pub find-loop-spec : {M : Type 1} → statement M
 find-loop-spec =
@@ -99,9 +109,11 @@ find-loop-spec =
     atom-at-requires
     cast-atom
     loop-holds
-    on-circle-requires
-    mul-t19
-    element-copy-out-t22
+    look-requires
+    enum-told
+    mul-t21
+    element-copy-out-t24
+    enum-known-more
     add-v
     loop-less
     loop-again
