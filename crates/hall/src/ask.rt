@@ -1,5 +1,6 @@
 // The questions: fate, loop, reach and tally, each over the atoms by rising address.
 use crate::atom::Place;
+use crate::walk::Seen;
 use meaning::Answer;
 use meaning::Fate;
 use meaning::Hall;
@@ -8,7 +9,9 @@ ghost use Prim.Native.Nat.{ℕ, _+_, _-_, _<_, _≤_};
 ghost use Rattle.meaning.specs.Questions.{fateOf, byAddress};
 ghost use Rattle.meaning.specs.Box.{stateOf};
 ghost use Rattle.meaning.specs.declared.Record.the-variants.{Loop as askLoop, Reach as askReach, Tally as askTally};
+ghost use Rattle.meaning.specs.Hall.{top};
 ghost use Rattle.meaning.proofs.Owners.{Whole};
+ghost use Rattle.hall.specs.Tallied.{Counted};
 
 // What becomes of a packet to address a from node v.
 pub fn fate_from(
@@ -49,12 +52,18 @@ pub fn find_loop(
     let mut answer = Answer::NoLoop;
     let mut p: usize = 0;
     'search: while p < atoms {
-        let atom = number[p] as usize;
+        let atom = crate::atom::atom_at(number, Place(p)).0 as usize;
+        let mut off: u16 = 0;
         let mut v: u8 = 0;
         while v < nodes {
-            if crate::walk::on_circle(link, owner, atom, nodes, v) {
-                answer = Answer::Loop(cut[p], v);
-                break 'search;
+            match crate::walk::look(link, owner, atom, nodes, v, off) {
+                Seen::Circle => {
+                    answer = Answer::Loop(cut[p], v);
+                    break 'search;
+                }
+                Seen::Off(more) => {
+                    off = more;
+                }
             }
             v += 1;
         }
@@ -82,7 +91,7 @@ pub fn find_reach(
     let atoms = h.atoms as usize;
     let mut p: usize = 0;
     while p < atoms {
-        let atom = number[p] as usize;
+        let atom = crate::atom::atom_at(number, Place(p)).0 as usize;
         if crate::walk::comes_to(link, owner, atom, h.nodes, v, w) {
             return Answer::Yes(cut[p]);
         }
@@ -100,7 +109,8 @@ struct Counts {
 
 // A packet of this fate, for so many addresses more.
 fn counted(c: Counts, f: Fate, width: u64) -> Counts
-    requires { ⌜ (c .out + width < 8589934593) × (c .lost + width < 8589934593) × (c .round + width < 8589934593) ⌝ }
+    requires { ⌜ (c .out + width ≤ top) × (c .lost + width ≤ top) × (c .round + width ≤ top) ⌝ }
+    ensures { λ r. ⌜ Counted c f width r ⌝ }
 {
     match f {
         Fate::Out(_, _) => Counts {
@@ -144,7 +154,7 @@ pub fn count_fates(
     };
     let mut p: usize = 0;
     while p < atoms {
-        let atom = number[p] as usize;
+        let atom = crate::atom::atom_at(number, Place(p)).0 as usize;
         let f = crate::walk::follow(link, owner, atom, h.nodes, v);
         c = counted(c, f, cut[p + 1] - cut[p]);
         p += 1;

@@ -2,9 +2,10 @@
 use meaning::Fate;
 ghost use mathlib.Core.Path.{_≡_};
 ghost use Prim.Native.Nat.{ℕ, _+_, _-_, _<_, _≤_};
-ghost use Rattle.meaning.specs.Walk.{at, move, arrive, told, fateIn, onCircle, comesTo};
+ghost use Rattle.meaning.specs.Walk.{at, move, arrive, told, fateIn, comesTo};
 ghost use Rattle.meaning.proofs.Owners.{nextIn, endIn, Ends};
-ghost use Rattle.hall.specs.Moves.{led};
+ghost use Rattle.meaning.proofs.Moving.{Off};
+ghost use Rattle.hall.specs.Moves.{led, seen};
 
 // Where one move leads: to a node, or to an end.
 pub enum Led {
@@ -75,28 +76,42 @@ fn move_from(link: &[u16; 64], owner: &[u16; 8192], atom: usize, v: u8) -> Led
     Led::Ended
 }
 
-// Whether node v lies on a circle of an atom.
-pub fn on_circle(link: &[u16; 64], owner: &[u16; 8192], atom: usize, n: u8, v: u8) -> bool
-    requires { ⌜ (atom < 512) × (v < 16) × (n ≤ 16) × Ends (now link) (now owner) ⌝ }
-    ensures { λ r. ⌜ r ≡ onCircle (nextIn (now (owner .entry)) atom) (endIn (now (link .entry))) n v ⌝ }
+// What a look at a node shows: that it lies on a circle, or the nodes that are seen to lie on none, a bit for each.
+pub enum Seen {
+    Circle,
+    Off(u16),
+}
+
+// Whether node v lies on a circle of an atom. A walk that ends, or comes to a node of `off`, passed no node of a circle.
+pub fn look(link: &[u16; 64], owner: &[u16; 8192], atom: usize, n: u8, v: u8, off: u16) -> Seen
+    requires { ⌜ (atom < 512) × (v < 16) × (n ≤ 16) × Ends (now link) (now owner) × Off (nextIn (now owner) atom) (endIn (now link)) n off ⌝ }
+    ensures { λ r. ⌜ seen (nextIn (now (owner .entry)) atom) (endIn (now (link .entry))) n v r ⌝ }
 {
+    if (off >> v) % 2 == 1 {
+        return Seen::Off(off);
+    }
     let mut here = v;
+    let mut passed = off;
     let mut i: u8 = 0;
     while i < n {
+        passed |= 1u16 << here;
         match move_from(link, owner, atom, here) {
             Led::To(w) => {
                 if w == v {
-                    return true;
+                    return Seen::Circle;
+                }
+                if (off >> w) % 2 == 1 {
+                    return Seen::Off(passed);
                 }
                 here = w;
             }
             Led::Ended => {
-                return false;
+                return Seen::Off(passed);
             }
         }
         i += 1;
     }
-    false
+    Seen::Off(off)
 }
 
 // Whether the walk to an atom from node v stands at node w at some time, the start counted.

@@ -15,7 +15,7 @@ use Rattle.meaning.proofs.Members.{bit-zero, bit-suc}
 pub bit-lt : (w j : ℕ) → bit w j < 2
 bit-lt w j = mod-lt (w / 2 ^ j) (zero-lt-suc 1)
 
-bit-of-zero : (j : ℕ) → bit 0 j ≡ 0
+pub bit-of-zero : (j : ℕ) → bit 0 j ≡ 0
 bit-of-zero j = ap (λ (x : ℕ). x % 2) (zero-div (2 ^ j))
 
 -- ---- a digit and its test

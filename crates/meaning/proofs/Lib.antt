@@ -12,6 +12,8 @@ pub mod Kept
 pub mod Agree
 pub mod Listing
 pub mod Members
+pub mod Moving
+pub mod ByPlace
 pub mod Pigeon
 pub mod Walks
 pub mod Circles
