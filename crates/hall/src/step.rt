@@ -79,20 +79,22 @@ fn check_link(h: Hall, source: u8, code: u8, number: u8) -> Check
     if h.nodes <= source {
         return Check::Refused(4);
     }
-    if 2 < code {
-        return Check::Refused(7);
-    }
-    if code == 2 {
-        if number != 0 {
-            return Check::Refused(7);
+    match code {
+        0 => {
+            if h.nodes <= number {
+                return Check::Refused(4);
+            }
+            Check::Passed
         }
-    }
-    if code == 0 {
-        if h.nodes <= number {
-            return Check::Refused(4);
+        1 => Check::Passed,
+        2 => {
+            if number != 0 {
+                return Check::Refused(7);
+            }
+            Check::Passed
         }
+        _ => Check::Refused(7),
     }
-    Check::Passed
 }
 
 // The end with this code and number.
