@@ -111,6 +111,7 @@ fn end_from(code: u8, number: u8) -> End
 
 // A link record.
 fn take_link(h: Hall, link: &mut [u16; 64], passed: usize, source: u8, code: u8, number: u8) -> Step
+    requires { ⌜ h .nodes ≤ 16 ⌝ }
     ensures { λ r. ⌜ ((rule cut places label owner list : List ℕ) → Held (stateOf h (now (link .entry)) rule cut places) label owner → h .phase ≡ 1
         → left (r .answer) (r .passed) (stateOf (r .hall) (now (link .exit)) rule cut places) label owner list ≡ takes (stateOf h (now (link .entry)) rule cut places) list passed (aLink source code number)) ⌝ }
 {
