@@ -159,7 +159,7 @@ fn take_close(h: Hall, passed: usize) -> Step
 // An insert record.
 fn take_insert(
     h: Hall,
-    link: &mut [u16; 64],
+    link: &[u16; 64],
     rule: &mut [u64; 256],
     cut: &mut [u64; 513],
     number: &mut [u16; 512],
@@ -172,7 +172,7 @@ fn take_insert(
 ) -> Step
     requires { ⌜ Held (stateOf h (now link) (now rule) (now cut) (now number)) (now label) (now owner) ⌝ }
     requires { ⌜ (h .phase ≡ 2) × (2560 ≤ length (now list)) ⌝ }
-    ensures { λ s. ⌜ left (s .answer) (s .passed) (stateOf (s .hall) (now (link .exit)) (now (rule .exit)) (now (cut .exit)) (now (number .exit))) (now (label .exit)) (now (owner .exit)) (now (list .exit))
+    ensures { λ s. ⌜ left (s .answer) (s .passed) (stateOf (s .hall) (now (link .entry)) (now (rule .exit)) (now (cut .exit)) (now (number .exit))) (now (label .exit)) (now (owner .exit)) (now (list .exit))
         ≡ takes (stateOf h (now (link .entry)) (now (rule .entry)) (now (cut .entry)) (now (number .entry))) (now (list .entry)) passed (insertion r (x .link) (x .prefix) (x .length) (x .priority)) ⌝ }
 {
     match crate::update::check_insert(h, link, rule, cut, r, x) {
@@ -197,10 +197,10 @@ fn take_insert(
 // A remove record.
 fn take_remove(
     h: Hall,
-    link: &mut [u16; 64],
+    link: &[u16; 64],
     rule: &mut [u64; 256],
-    cut: &mut [u64; 513],
-    number: &mut [u16; 512],
+    cut: &[u64; 513],
+    number: &[u16; 512],
     label: &mut [u64; 512],
     owner: &mut [u16; 8192],
     list: &mut [u64],
@@ -209,7 +209,7 @@ fn take_remove(
 ) -> Step
     requires { ⌜ Held (stateOf h (now link) (now rule) (now cut) (now number)) (now label) (now owner) ⌝ }
     requires { ⌜ (h .phase ≡ 2) × (2560 ≤ length (now list)) ⌝ }
-    ensures { λ s. ⌜ left (s .answer) (s .passed) (stateOf (s .hall) (now (link .exit)) (now (rule .exit)) (now (cut .exit)) (now (number .exit))) (now (label .exit)) (now (owner .exit)) (now (list .exit))
+    ensures { λ s. ⌜ left (s .answer) (s .passed) (stateOf (s .hall) (now (link .entry)) (now (rule .exit)) (now (cut .entry)) (now (number .entry))) (now (label .exit)) (now (owner .exit)) (now (list .exit))
         ≡ takes (stateOf h (now (link .entry)) (now (rule .entry)) (now (cut .entry)) (now (number .entry))) (now (list .entry)) passed (removal r) ⌝ }
 {
     match crate::update::check_remove(rule, r) {
