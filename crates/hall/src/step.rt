@@ -79,20 +79,22 @@ fn check_link(h: Hall, source: u8, code: u8, number: u8) -> Check
     if h.nodes <= source {
         return Check::Refused(4);
     }
-    if 2 < code {
-        return Check::Refused(7);
-    }
-    if code == 2 {
-        if number != 0 {
-            return Check::Refused(7);
+    match code {
+        0 => {
+            if h.nodes <= number {
+                return Check::Refused(4);
+            }
+            Check::Passed
         }
-    }
-    if code == 0 {
-        if h.nodes <= number {
-            return Check::Refused(4);
+        1 => Check::Passed,
+        2 => {
+            if number != 0 {
+                return Check::Refused(7);
+            }
+            Check::Passed
         }
+        _ => Check::Refused(7),
     }
-    Check::Passed
 }
 
 // The end with this code and number.
@@ -109,6 +111,7 @@ fn end_from(code: u8, number: u8) -> End
 
 // A link record.
 fn take_link(h: Hall, link: &mut [u16; 64], passed: usize, source: u8, code: u8, number: u8) -> Step
+    requires { ⌜ h .nodes ≤ 16 ⌝ }
     ensures { λ r. ⌜ ((rule cut places label owner list : List ℕ) → Held (stateOf h (now (link .entry)) rule cut places) label owner → h .phase ≡ 1
         → left (r .answer) (r .passed) (stateOf (r .hall) (now (link .exit)) rule cut places) label owner list ≡ takes (stateOf h (now (link .entry)) rule cut places) list passed (aLink source code number)) ⌝ }
 {
@@ -156,7 +159,7 @@ fn take_close(h: Hall, passed: usize) -> Step
 // An insert record.
 fn take_insert(
     h: Hall,
-    link: &mut [u16; 64],
+    link: &[u16; 64],
     rule: &mut [u64; 256],
     cut: &mut [u64; 513],
     number: &mut [u16; 512],
@@ -169,7 +172,7 @@ fn take_insert(
 ) -> Step
     requires { ⌜ Held (stateOf h (now link) (now rule) (now cut) (now number)) (now label) (now owner) ⌝ }
     requires { ⌜ (h .phase ≡ 2) × (2560 ≤ length (now list)) ⌝ }
-    ensures { λ s. ⌜ left (s .answer) (s .passed) (stateOf (s .hall) (now (link .exit)) (now (rule .exit)) (now (cut .exit)) (now (number .exit))) (now (label .exit)) (now (owner .exit)) (now (list .exit))
+    ensures { λ s. ⌜ left (s .answer) (s .passed) (stateOf (s .hall) (now (link .entry)) (now (rule .exit)) (now (cut .exit)) (now (number .exit))) (now (label .exit)) (now (owner .exit)) (now (list .exit))
         ≡ takes (stateOf h (now (link .entry)) (now (rule .entry)) (now (cut .entry)) (now (number .entry))) (now (list .entry)) passed (insertion r (x .link) (x .prefix) (x .length) (x .priority)) ⌝ }
 {
     match crate::update::check_insert(h, link, rule, cut, r, x) {
@@ -194,10 +197,10 @@ fn take_insert(
 // A remove record.
 fn take_remove(
     h: Hall,
-    link: &mut [u16; 64],
+    link: &[u16; 64],
     rule: &mut [u64; 256],
-    cut: &mut [u64; 513],
-    number: &mut [u16; 512],
+    cut: &[u64; 513],
+    number: &[u16; 512],
     label: &mut [u64; 512],
     owner: &mut [u16; 8192],
     list: &mut [u64],
@@ -206,7 +209,7 @@ fn take_remove(
 ) -> Step
     requires { ⌜ Held (stateOf h (now link) (now rule) (now cut) (now number)) (now label) (now owner) ⌝ }
     requires { ⌜ (h .phase ≡ 2) × (2560 ≤ length (now list)) ⌝ }
-    ensures { λ s. ⌜ left (s .answer) (s .passed) (stateOf (s .hall) (now (link .exit)) (now (rule .exit)) (now (cut .exit)) (now (number .exit))) (now (label .exit)) (now (owner .exit)) (now (list .exit))
+    ensures { λ s. ⌜ left (s .answer) (s .passed) (stateOf (s .hall) (now (link .entry)) (now (rule .exit)) (now (cut .entry)) (now (number .entry))) (now (label .exit)) (now (owner .exit)) (now (list .exit))
         ≡ takes (stateOf h (now (link .entry)) (now (rule .entry)) (now (cut .entry)) (now (number .entry))) (now (list .entry)) passed (removal r) ⌝ }
 {
     match crate::update::check_remove(rule, r) {
