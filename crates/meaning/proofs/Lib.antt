@@ -18,3 +18,8 @@ pub mod Means
 pub mod Ends
 pub mod Exchange
 pub mod Owners
+pub mod Bits
+pub mod LabelWords
+pub mod Idle
+pub mod Numbered
+pub mod Labelled

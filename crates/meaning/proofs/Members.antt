@@ -28,10 +28,10 @@ word-lt (suc n) f = go (f 0) (word-lt n (λ j. f (suc j)))
     go true h = omega (arith, pow-suc 2 n)
     go false h = omega (arith, pow-suc 2 n)
 
-bit-zero : (w : ℕ) → bit w 0 ≡ w % 2
+pub bit-zero : (w : ℕ) → bit w 0 ≡ w % 2
 bit-zero w = ap (λ (x : ℕ). x % 2) (div-one w)
 
-bit-suc : (w j : ℕ) → bit w (suc j) ≡ bit (w / 2) j
+pub bit-suc : (w j : ℕ) → bit w (suc j) ≡ bit (w / 2) j
 bit-suc w j = ap (λ (x : ℕ). w / x % 2) (pow-succ' 2 j) ∙ ap (λ (x : ℕ). x % 2) (sym (div-div-eq-div-mul w 2 (2 ^ j)))
 
 pub word-bit : (n : ℕ) (f : ℕ → Bool) (j : ℕ) → j < n → eqb (bit (wordOf n f) j) 1 ≡ f j
