@@ -23,3 +23,4 @@ pub mod LabelWords
 pub mod Idle
 pub mod Numbered
 pub mod Labelled
+pub mod Updates
