@@ -275,6 +275,10 @@ module _ (m n : State) (v : ℕ) where
   abbrev pub listTo : ℕ → List ℕ
   listTo k = entriesAt m n v (changedPlaces m n v k)
 
+  pub list-none : listTo 0 ≡ []
+  unfolding changedPlaces entriesAt
+  list-none = refl
+
   pub list-more : (p : ℕ) → listTo (suc p) ≡ listTo p ++ pick (changedAt m n v p) (entryAt m n v p) []
   unfolding changedPlaces
   list-more p = entries-append (changedPlaces m n v p) _ ∙ ap (λ (l : List ℕ). listTo p ++ l) (go (changedAt m n v p))
