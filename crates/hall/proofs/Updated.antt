@@ -13,18 +13,19 @@ use lib.ListN.{length, getD, set}
 use borrow.Author.Tests.{ltb-true, ltb-false, lt-ltb, le-ltb, eq-eqb, ne-eqb}
 use Rattle.meaning.specs.Search.{pick}
 use Rattle.meaning.specs.Hall.{State, sourceOf}
-use Rattle.meaning.specs.Rule.{live, linkOf, rank, covers}
+use Rattle.meaning.specs.Rule.{live, linkOf, rank, lower, upper, covers}
 use Rattle.meaning.specs.Winner.{better, ruleAt, eligible, winner, linkFor, nextAt}
 use Rattle.meaning.specs.Labels.{ownerWord}
 use Rattle.meaning.specs.Changes.{linkOrNone, changedAt, changedPlaces, entryAt, entriesAt, overwrite}
 use Rattle.meaning.specs.Step.{withRule, listed}
+use Rattle.meaning.proofs.Words.{covers-in}
 use Rattle.meaning.proofs.Sound.{Sound}
 use Rattle.meaning.proofs.Owners.{ownerIn, via, Owned, Agrees, Whole, Listed}
 use Rattle.meaning.proofs.Ranks.{take-first, take-higher, keep-lower}
 use Rattle.meaning.proofs.Labelled.{starts}
-use Rattle.meaning.proofs.Updates.{Joined, Differ, winner-le, never, stays, joined, owner-alike, owner-once, via-owner, owner-source, listTo, list-none, list-more, list-still, entries-length, same-places, same-entries}
+use Rattle.meaning.proofs.Updates.{Joined, Differ, Spans, differ-in, differ-out, in-span, node-small, winner-le, never, stays, joined, owner-alike, owner-once, via-owner, owner-source, listTo, list-none, list-more, list-still, entries-length, same-places, same-entries}
 use Rattle.hall.specs.Gathered.{bestIn}
-use Rattle.hall.specs.Sweep.{Swept, SweptAll, Wrote, entriesFrom, ownerBy, ownerFor, raised, heirOf}
+use Rattle.hall.specs.Sweep.{Ready, Swept, SweptAll, Wrote, entriesFrom, ownerBy, ownerFor, raised, heirOf}
 
 -- ---- the tables after a sweep
 
@@ -216,3 +217,48 @@ module _ (m n : State) (r z v : ℕ) (J : Joined m n r z v) (a mine : ℕ) (is :
       go (no d) =
           rw (ne-eqb (ownerWord n y) mine (λ e. d (owner-once n n y r (winner-le n (J .more) v a) (omega (arith, J .slot)) (e ∙ mine-is))))
           (sym (owner-alike m n r z v J v a (stays m n r z v J v a d)))
+
+-- ---- an insert and a remove, over the places that the rule covers
+
+module _ {m : State} {label owner list : List ℕ} {v f t z : ℕ} where
+  pub ready : Whole m label owner → v < 16 → Spans (m .cut) (m .atoms) z f t → 2560 ≤ length list → Ready (m .number) owner list (m .atoms) v f t
+  ready W hv P room = record {
+    numbers = W .sound .numbers;
+    few = W .sound .cuts .room;
+    order = P .order;
+    within = P .within;
+    node = hv;
+    size = W .owned .long;
+    room = room;
+  }
+
+module _ (m : State) (r z v f t : ℕ) {label owner : List ℕ} (W : Whole m label owner) (P : Spans (m .cut) (m .atoms) z f t) (mine : ℕ) (is : mine ≡ linkOf z * 512 + (r + 1)) where
+  abbrev old : ℕ → ℕ
+  old = ownerBy owner (m .number) v
+
+  old-is : v < 16 → (q : ℕ) → q < t → old q ≡ ownerWord m (winner m v (getD (m .cut) q 0))
+  old-is hv q b = W .owned .right q v (omega (arith, P .within)) hv
+
+  module _ {label′ owner′ list list′ : List ℕ} {count : ℕ} where
+    -- THE LAW of an insert; o is the state before its boundaries were made
+    pub taken-in : Joined m (withRule m r z) r z v → (o : State) → o .rule ≡ m .rule → o .link ≡ m .link
+        → SweptAll (m .cut) (m .number) (m .atoms) v f t old (λ q. raised (m .rule) mine (rank z) (old q)) label label′ owner owner′ list list′ count
+        → Listed o (withRule m r z) v label′ owner′ list list′ count
+    taken-in J = updated m r z v f t label owner W (J .more) (differ-in J (W .sound .cuts) P) (node-small J) (P .order) (P .within) _ (λ q a b.
+        let s = in-span (W .sound .cuts) P q a b in
+        let x = getD (m .cut) q 0 in
+        ap (raised (m .rule) mine (rank z)) (old-is (node-small J) q b)
+        ∙ raised-is m (withRule m r z) r z v J x mine is (sym (covers-in z x (s .0)) ∙ lt-ltb x (upper z) (s .1)))
+
+    -- THE LAW of a remove
+    pub taken-out : Joined (withRule m r 0) m r z v → (among : List ℕ) (few : ℕ)
+        → ((a : ℕ) → lower z ≤ a → a < upper z
+        → bestIn (λ k. covers (getD (set (m .rule) r 0) k 0) a) (λ k. rank (getD (set (m .rule) r 0) k 0)) among few ≡ winner (withRule m r 0) v a)
+        → SweptAll (m .cut) (m .number) (m .atoms) v f t old (λ q. heirOf (set (m .rule) r 0) among few mine (getD (m .cut) q 0) (old q)) label label′ owner owner′ list list′ count
+        → Listed m (withRule m r 0) v label′ owner′ list list′ count
+    unfolding withRule
+    taken-out J among few best = updated m r 0 v f t label owner W (J .less) (differ-out J (W .sound .cuts) P) (node-small J) (P .order) (P .within) _ (λ q a b.
+        let s = in-span (W .sound .cuts) P q a b in
+        let x = getD (m .cut) q 0 in
+        ap (heirOf (set (m .rule) r 0) among few mine x) (old-is (node-small J) q b)
+        ∙ heir-is (withRule m r 0) m r z v J x mine is among few (best x (s .0) (s .1))) m refl refl

@@ -306,10 +306,10 @@ module _ (m : State) (S : Sound m) (r l p n t : ℕ) (F : Sized l p t) (ph : m .
   hl : l < 64
   hl = omega (arith, C .declared, S .few)
 
-  lower-top : lower word ≤ top
+  pub lower-top : lower word ≤ top
   lower-top = omega (arith, lower-of l p n t hl (F .prefix) (C .long) (F .priority), F .prefix)
 
-  upper-top : upper word ≤ top
+  pub upper-top : upper word ≤ top
   upper-top = omega (arith, upper-of l p n t hl (F .prefix) (C .long) (F .priority), within-top p n (F .prefix) (C .long) (C .flush))
 
   -- there is room for both ends
@@ -317,7 +317,7 @@ module _ (m : State) (S : Sound m) (r l p n t : ℕ) (F : Sized l p t) (ph : m .
   unfolding added
   room-both = C .room
 
-  room-lower : isCut (m .cut) (m .atoms) (lower word) ≡ false → m .atoms < 512
+  pub room-lower : isCut (m .cut) (m .atoms) (lower word) ≡ false → m .atoms < 512
   room-lower e = omega (arith, rw e at room-both)
 
   S₁ : Sound (withCut m (lower word))
@@ -338,7 +338,7 @@ module _ (m : State) (S : Sound m) (r l p n t : ℕ) (F : Sized l p t) (ph : m .
   unfolding withCut
   count₁ = split-count top (m .cut) (m .atoms) (lower word) (S .cuts) lower-top room-lower
 
-  room-upper : isCut (withCut m (lower word) .cut) (withCut m (lower word) .atoms) (upper word) ≡ false → withCut m (lower word) .atoms < 512
+  pub room-upper : isCut (withCut m (lower word) .cut) (withCut m (lower word) .atoms) (upper word) ≡ false → withCut m (lower word) .atoms < 512
   room-upper e = omega (arith, rw (missing e) at room-both, count₁)
 
   keeps-insert : Sound (inserted m r (ruleWord l p n t))

@@ -1,6 +1,6 @@
 -- What an update does to the winners and the owners. State n has the rules of m and one more, rule r with the word z: an insert goes from
 -- m to n, a remove from n to m. With r, the winner is the better of the winner without it and r. Assumes nothing.
-use mathlib.Core.Path.{_≡_, refl, sym, ap, ap₂, _∙_}
+use mathlib.Core.Path.{_≡_, refl, sym, ap, ap₂, _∙_, subst⁻¹}
 use mathlib.Core.Logic.{_⊎_, inl, inr, ⊎-elim}
 use mathlib.Core.Bool.{Bool, true, false, not, _&&_, _||_, true≢false}
 use mathlib.Core.List.{List, [], _∷_, _++_, append-assoc, append-nil}
@@ -10,23 +10,27 @@ use native.Mathlib.Decide.{ℕ-discrete, decLt}
 use native.Mathlib.Omega.{arith}
 use lib.Dec.{leb, ltb, eqb}
 use lib.ListN.{length, getD, length-append}
-use borrow.Author.Tests.{ltb-true, ltb-false, leb-true, eqb-true, lt-ltb, le-leb}
+use borrow.Author.Tests.{ltb-true, ltb-false, leb-true, eqb-true, lt-ltb, not-false}
 use Rattle.meaning.specs.Search.{pick}
 use Rattle.meaning.specs.Hall.{top, State, sourceOf}
-use Rattle.meaning.specs.Rule.{live, linkOf, rank, lower, upper, covers}
+use Rattle.meaning.specs.Rule.{ruleWord, live, linkOf, rank, lower, upper, covers}
 use Rattle.meaning.specs.Winner.{better, best, ruleAt, eligible, winner, linkFor, nextAt}
 use Rattle.meaning.specs.Labels.{ownerWord}
-use Rattle.meaning.specs.Atoms.{placeOf, isCut}
+use Rattle.meaning.specs.Atoms.{placeOf, isCut, withCut}
 use Rattle.meaning.specs.Changes.{linkOrNone, changedAt, changedPlaces, entryAt, entriesAt}
-use Rattle.meaning.specs.Step.{withRule}
+use Rattle.meaning.specs.declared.Record.{Record}
+use Rattle.meaning.specs.declared.Record.the-variants.{Insert as insert, Remove as remove}
+use Rattle.meaning.specs.Records.{phaseOf}
+use Rattle.meaning.specs.Step.{refusal, withRule, inserted, leaves, nodeOf}
+use Rattle.meaning.proofs.Words.{link-of, live-of, Sized, Fits}
 use Rattle.meaning.proofs.Tables.{Cuts, Boundary}
 use Rattle.meaning.proofs.Members.{and-both}
-use Rattle.meaning.proofs.Sound.{Sound}
+use Rattle.meaning.proofs.Sound.{Sound, when-none}
 use Rattle.meaning.proofs.Ranks.{Wins, wins-once, keep-out, take-first, take-higher, keep-lower}
 use Rattle.meaning.proofs.Means.{fit, wins}
 use Rattle.meaning.proofs.Places.{le-or-lt, place-le, place-max, cut-le}
 use Rattle.meaning.proofs.Parted.{boundary-is}
-use Rattle.meaning.proofs.Kept.{rule-new, rule-old}
+use Rattle.meaning.proofs.Kept.{rule-new, rule-old, Clear, clear, keeps}
 use Rattle.meaning.proofs.Exchange.{winner-same, next-same}
 use Rattle.meaning.proofs.Owners.{via}
 use Rattle.meaning.proofs.Labelled.{link-small, via-word, via-won, won-at}
@@ -169,33 +173,50 @@ via-owner m w = go (ltb w 256) refl
 pub owner-source : (m : State) → Sound m → (v a : ℕ) → (ownerWord m (winner m v a) ≡ 0 → ⊥) → sourceOf m (via (ownerWord m (winner m v a))) ≡ v
 owner-source m S v a n = let o = won-at m S v a n in ap (sourceOf m) (via-won m v (ownerWord m (winner m v a)) o) ∙ o .here
 
--- ---- a rule is put at a free number, or taken out
+-- ---- an accepted remove and an accepted insert
 
-module _ (m : State) (S : Sound m) (r : ℕ) (hr : r < 256) where
-  pub put-in : (z : ℕ) → live z ≡ true → live (ruleAt m r) ≡ false → Sound (withRule m r z) → Joined m (withRule m r z) r z (sourceOf m (linkOf z))
-  put-in z alive free S′ = record {
-    less = S;
-    more = S′;
-    slot = hr;
+module _ (m : State) (r : ℕ) (S : Sound m) (ph : m .phase ≡ 2) (ok : refusal m (remove r) ≡ none) where
+  live-there : (r < 256) × (live (ruleAt m r) ≡ true)
+  unfolding refusal
+  live-there = let a = when-none _ _ _ ok in (omega (arith, ltb-false 255 r (a .0)), not-false _ (when-none _ _ _ (a .1) .0))
+
+  pub goes : (v : ℕ) → v ≡ nodeOf m (remove r) → Joined (withRule m r 0) m r (ruleAt m r) v
+  unfolding nodeOf
+  goes v e = record {
+    less = unfold leaves phaseOf Fits in keeps m (remove r) S tt ph ok;
+    more = S;
+    slot = live-there .0;
     links = unfold withRule in refl;
-    free = free;
-    word = rule-new m r z (S .rules) hr;
-    alive = alive;
-    node = unfold withRule sourceOf in refl;
-    others = rule-old m r z (S .rules) hr;
+    free = ap live (rule-new m r 0 (S .rules) (live-there .0)) ∙ (unfold live in refl);
+    word = refl;
+    alive = live-there .1;
+    node = sym e;
+    others = λ i d. sym (rule-old m r 0 (S .rules) (live-there .0) i d);
   }
 
-  pub taken-out : live (ruleAt m r) ≡ true → Sound (withRule m r 0) → Joined (withRule m r 0) m r (ruleAt m r) (sourceOf m (linkOf (ruleAt m r)))
-  taken-out alive S′ = record {
-    less = S′;
-    more = S;
-    slot = hr;
-    links = unfold withRule in refl;
-    free = ap live (rule-new m r 0 (S .rules) hr) ∙ (unfold live in refl);
-    word = refl;
-    alive = alive;
-    node = refl;
-    others = λ i d. sym (rule-old m r 0 (S .rules) hr i d);
+-- an insert goes by way of the state whose boundaries are made
+module _ (m : State) (r l p n t : ℕ) (S : Sound m) (F : Sized l p t) (ph : m .phase ≡ 2) (ok : refusal m (insert r l p n t) ≡ none) where
+  abbrev z : ℕ
+  z = ruleWord l p n t
+
+  C : Clear m r l p n t
+  C = clear m r l p n t ok
+
+  small : l < 64
+  small = omega (arith, C .declared, S .few)
+
+  pub comes : (o : State) → o ≡ withCut (withCut m (lower z)) (upper z) → Sound o → (v : ℕ) → v ≡ nodeOf m (insert r l p n t) → Joined o (withRule o r z) r z v
+  unfolding nodeOf sourceOf withRule
+  comes o is O v e = record {
+    less = O;
+    more = subst⁻¹ (λ (s : State). Sound (withRule s r z)) is (unfold leaves inserted phaseOf Fits in keeps m (insert r l p n t) S F ph ok);
+    slot = C .number;
+    links = refl;
+    free = ap (λ (s : State). live (ruleAt s r)) is ∙ (unfold withCut ruleAt in C .free);
+    word = rule-new o r z (O .rules) (C .number);
+    alive = live-of l p n t small (F .prefix) (C .long) (F .priority);
+    node = ap₂ (λ (s : State) (x : ℕ). getD (s .link) x 0 / 1024) is (link-of l p n t small (F .prefix) (C .long) (F .priority)) ∙ (unfold withCut in sym e);
+    others = rule-old o r z (O .rules) (C .number);
   }
 
 -- ---- the places that a rule covers
@@ -221,11 +242,9 @@ module _ {cut : List ℕ} {k z f t : ℕ} (C : Cuts top cut k) where
       }
 
   module _ (P : Spans cut k z f t) (q : ℕ) where
-    pub in-span : f ≤ q → q < t → covers z (getD cut q 0) ≡ true
-    unfolding covers
+    pub in-span : f ≤ q → q < t → (lower z ≤ getD cut q 0) × (getD cut q 0 < upper z)
     in-span a b =
-        ap₂ _&&_ (le-leb (lower z) (getD cut q 0) (omega (arith, P .from, P .within, cut-le C f q a (omega (arith, P .within)))))
-        (lt-ltb (getD cut q 0) (upper z) (omega (arith, P .to, C .up q t b (P .within))))
+        (omega (arith, P .from, P .within, cut-le C f q a (omega (arith, P .within))), omega (arith, P .to, C .up q t b (P .within)))
 
     pub of-span : q < k → covers z (getD cut q 0) ≡ true → (f ≤ q) × (q < t)
     unfolding covers
@@ -236,6 +255,18 @@ module _ {cut : List ℕ} {k z f t : ℕ} (C : Cuts top cut k) where
           ⊎-elim (λ (g : f ≤ q). g) (λ (g : q < f). absurd (omega (arith, C .up q f g (omega (arith, P .order, P .within)), P .from))) (le-or-lt f q),
           ⊎-elim (λ (g : t ≤ q). absurd (omega (arith, cut-le C t q g (omega arith), P .to))) (λ (g : q < t). g) (le-or-lt t q),
         )
+
+module _ {m n : State} {r z v : ℕ} (J : Joined m n r z v) where
+  -- the ends of a rule are boundaries
+  pub rule-spans : {f t : ℕ} → f ≡ placeOf (n .cut) (n .atoms) (lower z) → t ≡ placeOf (n .cut) (n .atoms) (upper z) → Spans (n .cut) (n .atoms) z f t
+  rule-spans p q =
+      let a = J .more .aligned r (J .slot) (ap live (J .word) ∙ J .alive) in
+      spans (J .more .cuts) (rw (J .word) at (a .0)) (rw (J .word) at (a .1)) p q
+
+  pub node-small : v < 16
+  node-small =
+      let h = J .more .named r (J .slot) (ap live (J .word) ∙ J .alive) in
+      omega (arith, J .node, J .more .sources (linkOf z) (omega (arith, ap linkOf (J .word))), J .more .small)
 
 -- ---- where the winners differ
 
