@@ -1,10 +1,9 @@
 -- What a sweep leaves after the word of one rule has changed: the owners and the labels are those of the new state, and the list is its list.
 -- And that the sweeps' new owners are the new winners. Assumes nothing.
 use mathlib.Core.Path.{_≡_, refl, sym, ap, ap₂, _∙_}
-use mathlib.Core.Logic.{_⊎_, inl, inr}
-use mathlib.Core.Bool.{Bool, true, false, not, _&&_, _||_}
+use mathlib.Core.Logic.{inl, inr}
+use mathlib.Core.Bool.{Bool, true, false, not}
 use mathlib.Core.List.{List, [], _∷_, _++_}
-use mathlib.Core.Option.{Option, none, some}
 use Prim.Native.Nat.{ℕ, zero, suc, _+_, _-_, _*_, _/_, _%_, _≤_, _<_}
 use native.Mathlib.Decide.{ℕ-discrete, decLt}
 use native.Mathlib.Omega.{arith}
@@ -13,19 +12,19 @@ use lib.ListN.{length, getD, set}
 use borrow.Author.Tests.{ltb-true, ltb-false, lt-ltb, le-ltb, eq-eqb, ne-eqb}
 use Rattle.meaning.specs.Search.{pick}
 use Rattle.meaning.specs.Hall.{State, sourceOf}
-use Rattle.meaning.specs.Rule.{live, linkOf, rank, lower, upper, covers}
+use Rattle.meaning.specs.Rule.{linkOf, rank, lower, upper, covers}
 use Rattle.meaning.specs.Winner.{better, ruleAt, eligible, winner, linkFor, nextAt}
 use Rattle.meaning.specs.Labels.{ownerWord}
-use Rattle.meaning.specs.Changes.{linkOrNone, changedAt, changedPlaces, entryAt, entriesAt, overwrite}
+use Rattle.meaning.specs.Changes.{linkOrNone, changedAt, entryAt, entriesAt, overwrite}
 use Rattle.meaning.specs.Step.{withRule, listed}
 use Rattle.meaning.proofs.Words.{covers-in}
 use Rattle.meaning.proofs.Sound.{Sound}
-use Rattle.meaning.proofs.Owners.{ownerIn, via, Owned, Agrees, Whole, Listed}
+use Rattle.meaning.proofs.Owners.{ownerIn, via, Owned, Whole, Listed}
 use Rattle.meaning.proofs.Ranks.{take-first, take-higher, keep-lower}
 use Rattle.meaning.proofs.Labelled.{starts}
 use Rattle.meaning.proofs.Updates.{Joined, Differ, Spans, differ-in, differ-out, in-span, node-small, winner-le, never, stays, joined, owner-alike, owner-once, via-owner, owner-source, listTo, list-none, list-more, list-still, entries-length, same-places, same-entries}
 use Rattle.hall.specs.Gathered.{bestIn}
-use Rattle.hall.specs.Sweep.{Ready, Swept, SweptAll, Wrote, entriesFrom, ownerBy, ownerFor, raised, heirOf}
+use Rattle.hall.specs.Sweep.{Ready, Swept, SweptAll, entriesFrom, ownerBy, ownerFor, raised, heirOf}
 
 -- ---- the tables after a sweep
 

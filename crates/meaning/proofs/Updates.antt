@@ -2,23 +2,22 @@
 -- m to n, a remove from n to m. With r, the winner is the better of the winner without it and r. Assumes nothing.
 use mathlib.Core.Path.{_≡_, refl, sym, ap, ap₂, _∙_, subst⁻¹}
 use mathlib.Core.Logic.{_⊎_, inl, inr, ⊎-elim}
-use mathlib.Core.Bool.{Bool, true, false, not, _&&_, _||_, true≢false}
+use mathlib.Core.Bool.{Bool, true, false, not, true≢false}
 use mathlib.Core.List.{List, [], _∷_, _++_, append-assoc, append-nil}
-use mathlib.Core.Option.{Option, none, some}
-use Prim.Native.Nat.{ℕ, zero, suc, _+_, _-_, _*_, _/_, _%_, _^_, _≤_, _<_}
-use native.Mathlib.Decide.{ℕ-discrete, decLt}
+use mathlib.Core.Option.{none, some}
+use Prim.Native.Nat.{ℕ, zero, suc, _+_, _*_, _/_, _≤_, _<_}
+use native.Mathlib.Decide.{ℕ-discrete}
 use native.Mathlib.Omega.{arith}
-use lib.Dec.{leb, ltb, eqb}
-use lib.ListN.{length, getD, length-append}
-use borrow.Author.Tests.{ltb-true, ltb-false, leb-true, eqb-true, lt-ltb, not-false}
+use lib.Dec.{leb, ltb}
+use lib.ListN.{length, getD}
+use borrow.Author.Tests.{ltb-true, ltb-false, leb-true, eqb-true, not-false}
 use Rattle.meaning.specs.Search.{pick}
 use Rattle.meaning.specs.Hall.{top, State, sourceOf}
 use Rattle.meaning.specs.Rule.{ruleWord, live, linkOf, rank, lower, upper, covers}
-use Rattle.meaning.specs.Winner.{better, best, ruleAt, eligible, winner, linkFor, nextAt}
+use Rattle.meaning.specs.Winner.{better, ruleAt, eligible, winner, linkFor}
 use Rattle.meaning.specs.Labels.{ownerWord}
 use Rattle.meaning.specs.Atoms.{placeOf, isCut, withCut}
 use Rattle.meaning.specs.Changes.{linkOrNone, changedAt, changedPlaces, entryAt, entriesAt}
-use Rattle.meaning.specs.declared.Record.{Record}
 use Rattle.meaning.specs.declared.Record.the-variants.{Insert as insert, Remove as remove}
 use Rattle.meaning.specs.Records.{phaseOf}
 use Rattle.meaning.specs.Step.{refusal, withRule, inserted, leaves, nodeOf}
