@@ -1,6 +1,6 @@
 -- What a sweep leaves after the word of one rule has changed: the owners and the labels are those of the new state, and the list is its list.
 -- And that the sweeps' new owners are the new winners. Assumes nothing.
-use mathlib.Core.Path.{_≡_, refl, sym, ap, ap₂, _∙_}
+use mathlib.Core.Path.{_≡_, refl, sym, ap, ap₂, _∙_, subst⁻¹}
 use mathlib.Core.Logic.{inl, inr}
 use mathlib.Core.Bool.{Bool, true, false, not}
 use mathlib.Core.List.{List, [], _∷_, _++_}
@@ -16,14 +16,16 @@ use Rattle.meaning.specs.Rule.{linkOf, rank, lower, upper, covers}
 use Rattle.meaning.specs.Winner.{better, ruleAt, eligible, winner, linkFor, nextAt}
 use Rattle.meaning.specs.Labels.{ownerWord}
 use Rattle.meaning.specs.Changes.{linkOrNone, changedAt, entryAt, entriesAt, overwrite}
+use Rattle.meaning.specs.Atoms.{withCut}
 use Rattle.meaning.specs.Step.{withRule, listed}
 use Rattle.meaning.proofs.Words.{covers-in}
 use Rattle.meaning.proofs.Sound.{Sound}
-use Rattle.meaning.proofs.Owners.{ownerIn, via, Owned, Whole, Listed}
+use Rattle.meaning.proofs.Owners.{ownerIn, via, Owned, Whole, Listed, Numbered}
 use Rattle.meaning.proofs.Ranks.{take-first, take-higher, keep-lower}
-use Rattle.meaning.proofs.Labelled.{starts}
+use Rattle.meaning.proofs.Labelled.{starts, owner-numbered}
 use Rattle.meaning.proofs.Updates.{Joined, Differ, Spans, differ-in, differ-out, in-span, node-small, winner-le, never, stays, joined, owner-alike, owner-once, via-owner, owner-source, listTo, list-none, list-more, list-still, entries-length, same-places, same-entries}
 use Rattle.hall.specs.Gathered.{bestIn}
+use Rattle.hall.specs.Rows.{Split}
 use Rattle.hall.specs.Sweep.{Ready, Swept, SweptAll, entriesFrom, ownerBy, ownerFor, raised, heirOf}
 
 -- ---- the tables after a sweep
@@ -217,7 +219,44 @@ module _ (m n : State) (r z v : ℕ) (J : Joined m n r z v) (a mine : ℕ) (is :
           rw (ne-eqb (ownerWord n y) mine (λ e. d (owner-once n n y r (winner-le n (J .more) v a) (omega (arith, J .slot)) (e ∙ mine-is))))
           (sym (owner-alike m n r z v J v a (stays m n r z v J v a d)))
 
+-- ---- a boundary is made
+
+-- a state with these boundaries, numbers and atoms
+abbrev pub cutAs : State → List ℕ → List ℕ → ℕ → State
+cutAs m cut number n = record {
+  phase = m .phase;
+  nodes = m .nodes;
+  links = m .links;
+  atoms = n;
+  link = m .link;
+  rule = m .rule;
+  cut = cut;
+  number = number;
+}
+
+module _ (m : State) (b : ℕ) {cut number : List ℕ} {n : ℕ} (s : Split (m .cut) (m .number) (m .atoms) b cut number n) where
+  pub split-is : cutAs m cut number n ≡ withCut m b
+  unfolding withCut
+  split-is = rw (s .cuts, s .numbers, s .count)
+
+  pub split-whole : {label owner : List ℕ} → Whole (withCut m b) label owner → Whole (cutAs m cut number n) label owner
+  split-whole {label} {owner} W = subst⁻¹ (λ (o : State). Whole o label owner) split-is W
+
 -- ---- an insert and a remove, over the places that the rule covers
+
+pub listed-as : {m n n′ : State} {v v′ : ℕ} {label owner list list′ : List ℕ} {count : ℕ} → n ≡ n′ → v ≡ v′
+    → Listed m n v label owner list list′ count → Listed m n′ v′ label owner list list′ count
+listed-as e f l = rw (← e, ← f) l
+
+pub numbered : (m : State) (label owner : List ℕ) → Whole m label owner → Numbered owner
+numbered m label owner W = record {
+  from = λ k v hk hv n. owner-numbered m owner (W .sound) (W .owned) k v hk hv n .0;
+  upto = λ k v hk hv. go k v hk hv (ℕ-discrete (ownerIn owner k v) 0);
+}
+  where
+    go : (k v : ℕ) → k < 512 → v < 16 → Dec (ownerIn owner k v ≡ 0) → ownerIn owner k v % 512 ≤ 256
+    go k v hk hv (yes e) = omega arith
+    go k v hk hv (no n) = owner-numbered m owner (W .sound) (W .owned) k v hk hv n .1
 
 module _ {m : State} {label owner list : List ℕ} {v f t z : ℕ} where
   pub ready : Whole m label owner → v < 16 → Spans (m .cut) (m .atoms) z f t → 2560 ≤ length list → Ready (m .number) owner list (m .atoms) v f t
@@ -240,14 +279,14 @@ module _ (m : State) (r z v f t : ℕ) {label owner : List ℕ} (W : Whole m lab
 
   module _ {label′ owner′ list list′ : List ℕ} {count : ℕ} where
     -- THE LAW of an insert; o is the state before its boundaries were made
-    pub taken-in : Joined m (withRule m r z) r z v → (o : State) → o .rule ≡ m .rule → o .link ≡ m .link
-        → SweptAll (m .cut) (m .number) (m .atoms) v f t old (λ q. raised (m .rule) mine (rank z) (old q)) label label′ owner owner′ list list′ count
+    pub taken-in : Joined m (withRule m r z) r z v → (o : State) → o .rule ≡ m .rule → o .link ≡ m .link → (k : ℕ) → k ≡ rank z
+        → SweptAll (m .cut) (m .number) (m .atoms) v f t old (λ q. raised (m .rule) mine k (old q)) label label′ owner owner′ list list′ count
         → Listed o (withRule m r z) v label′ owner′ list list′ count
-    taken-in J = updated m r z v f t label owner W (J .more) (differ-in J (W .sound .cuts) P) (node-small J) (P .order) (P .within) _ (λ q a b.
+    taken-in J o rules links k e = updated m r z v f t label owner W (J .more) (differ-in J (W .sound .cuts) P) (node-small J) (P .order) (P .within) _ (λ q a b.
         let s = in-span (W .sound .cuts) P q a b in
         let x = getD (m .cut) q 0 in
-        ap (raised (m .rule) mine (rank z)) (old-is (node-small J) q b)
-        ∙ raised-is m (withRule m r z) r z v J x mine is (sym (covers-in z x (s .0)) ∙ lt-ltb x (upper z) (s .1)))
+        ap₂ (raised (m .rule) mine) e (old-is (node-small J) q b)
+        ∙ raised-is m (withRule m r z) r z v J x mine is (sym (covers-in z x (s .0)) ∙ lt-ltb x (upper z) (s .1))) o rules links
 
     -- THE LAW of a remove
     pub taken-out : Joined (withRule m r 0) m r z v → (among : List ℕ) (few : ℕ)
