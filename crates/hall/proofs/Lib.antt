@@ -6,3 +6,4 @@ mod Rules
 mod Sweeping
 mod Clears
 mod Running
+mod Updated

@@ -88,28 +88,28 @@ owned-by m owner S e = rw e (owned-of m S)
 
 -- ---- what an owner says
 
-link-small : (w : ℕ) → linkOf w < 64
+pub link-small : (w : ℕ) → linkOf w < 64
 unfolding linkOf
 link-small w = mod-lt (w / 2 ^ 32) (zero-lt-suc 63)
 
-via-word : (l w : ℕ) → l < 64 → w < 256 → via (l * 512 + (w + 1)) ≡ l
+pub via-word : (l w : ℕ) → l < 64 → w < 256 → via (l * 512 + (w + 1)) ≡ l
 unfolding via
 via-word l w hl hw = rw (ne-eqb (l * 512 + (w + 1)) 0 (λ e. omega arith)) (omega arith)
 
 -- the word e is that of a live rule at node v
-record Won (m : State) (v e : ℕ) : Type 0 where
-  rule : ℕ
-  within : rule < 256
-  alive : live (ruleAt m rule) ≡ true
-  here : sourceOf m (linkOf (ruleAt m rule)) ≡ v
-  word : e ≡ linkOf (ruleAt m rule) * 512 + (rule + 1)
+pub record Won (m : State) (v e : ℕ) : Type 0 where
+  pub rule : ℕ
+  pub within : rule < 256
+  pub alive : live (ruleAt m rule) ≡ true
+  pub here : sourceOf m (linkOf (ruleAt m rule)) ≡ v
+  pub word : e ≡ linkOf (ruleAt m rule) * 512 + (rule + 1)
 
 module _ (m : State) (v e : ℕ) (W : Won m v e) where
-  via-won : via e ≡ linkOf (ruleAt m (W .rule))
+  pub via-won : via e ≡ linkOf (ruleAt m (W .rule))
   via-won = ap via (W .word) ∙ via-word (linkOf (ruleAt m (W .rule))) (W .rule) (link-small (ruleAt m (W .rule))) (W .within)
 
 module _ (m : State) (S : Sound m) where
-  won-at : (v a : ℕ) → (ownerWord m (winner m v a) ≡ 0 → ⊥) → Won m v (ownerWord m (winner m v a))
+  pub won-at : (v a : ℕ) → (ownerWord m (winner m v a) ≡ 0 → ⊥) → Won m v (ownerWord m (winner m v a))
   unfolding ownerWord
   won-at v a n = go (wins m S v a) (ltb (winner m v a) 256) refl n
     where

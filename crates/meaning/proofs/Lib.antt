@@ -42,6 +42,7 @@ pub mod Asked
 pub mod Undone
 pub mod Boundaries
 pub mod Numbering
+pub mod OneRule
 pub mod Updates
 pub mod Lists
 pub mod Sides
