@@ -1,0 +1,47 @@
+-- Writing one text after another writes the two joined. Assumes nothing.
+use mathlib.Core.Path.{_≡_, refl, sym, ap, _∙_, subst}
+use mathlib.Core.List.{List, [], _∷_, _++_}
+use Prim.Native.Nat.{ℕ, zero, suc, _+_, _≤_}
+use native.Mathlib.Nat.{add-zero, add-suc, suc-add}
+use native.Mathlib.Omega.{arith}
+use lib.ListN.{length, set, length-append}
+use lib.Seq.{sets, length-sets}
+use Rattle.print.specs.Text.{Wrote}
+
+-- stores of one text and then of another just behind it
+sets-both : (xs ys l : List ℕ) (i : ℕ) → sets (sets l i xs) (i + length xs) ys ≡ sets l i (xs ++ ys)
+sets-both [] ys l i = ap (λ (k : ℕ). sets l k ys) (add-zero i)
+sets-both (x ∷ xs) ys l i =
+    ap (λ (k : ℕ). sets (sets (set l i x) (suc i) xs) k ys) (add-suc i (length xs) ∙ sym (suc-add i (length xs)))
+    ∙ sets-both xs ys (set l i x) (suc i)
+
+module _ {m n : ℕ} {xs ys old mid new : List ℕ} {at k next : ℕ} where
+  pub both : Wrote m xs old mid at k → Wrote n ys mid new k next → Wrote (m + n) (xs ++ ys) old new at next
+  both a b = record {
+    bytes =
+        b .bytes
+        ∙ ap (λ (l : List ℕ). sets l k ys) (a .bytes)
+        ∙ ap (λ (i : ℕ). sets (sets old at xs) i ys) (a .moved)
+        ∙ sets-both xs ys old at;
+    moved = omega (arith, a .moved, b .moved, length-append xs ys);
+    kept = b .kept ∙ a .kept;
+    near = omega (arith, a .near, b .near);
+  }
+
+-- the same text by another name, and a larger bound
+pub also : {m n : ℕ} {xs ys old new : List ℕ} {at next : ℕ} → xs ≡ ys → m ≤ n → Wrote m xs old new at next → Wrote n ys old new at next
+also {m} {n} {xs} {ys} {old} {new} {at} {next} e h w = record {
+  bytes = w .bytes ∙ ap (λ (s : List ℕ). sets old at s) e;
+  moved = w .moved ∙ ap (λ (s : List ℕ). at + length s) e;
+  kept = w .kept;
+  near = omega (arith, w .near);
+}
+
+-- a bound by the text itself
+pub short : {m n : ℕ} {xs old new : List ℕ} {at next : ℕ} → length xs ≤ n → Wrote m xs old new at next → Wrote n xs old new at next
+short h w = record {
+  bytes = w .bytes;
+  moved = w .moved;
+  kept = w .kept;
+  near = omega (arith, w .moved);
+}

@@ -1,0 +1,3 @@
+-- What is printed, as lists of byte values.
+pub mod Text
+pub mod Lines

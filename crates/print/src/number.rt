@@ -1,0 +1,66 @@
+// Bytes, texts and numbers. Each function writes at a place and gives the place just behind what it wrote.
+ghost use mathlib.Core.Path.{_≡_};
+ghost use mathlib.Core.List.{[], _∷_};
+ghost use Prim.Native.Nat.{_+_, _<_, _≤_};
+ghost use lib.ListN.{length};
+ghost use Rattle.print.specs.Text.{Wrote, decimal, pair, four};
+
+// One byte.
+pub fn put_byte(buf: &mut [u8], at: usize, b: u8) -> usize
+    requires { ⌜ at < length (now buf) ⌝ }
+    ensures { λ r. ⌜ Wrote 1 (b ∷ []) (now (buf .entry)) (now (buf .exit)) at r ⌝ }
+{
+    buf[at] = b;
+    at + 1
+}
+
+// The two digits of a number below 100.
+fn put_pair(buf: &mut [u8], at: usize, n: u32) -> usize
+    requires { ⌜ at + 2 ≤ length (now buf) ⌝ }
+    requires { ⌜ n < 100 ⌝ }
+    ensures { λ r. ⌜ Wrote 2 (pair n) (now (buf .entry)) (now (buf .exit)) at r ⌝ }
+{
+    let next = put_byte(buf, at, 48 + (n / 10) as u8);
+    put_byte(buf, next, 48 + (n % 10) as u8)
+}
+
+// The four digits of a number below 10,000.
+fn put_four(buf: &mut [u8], at: usize, n: u32) -> usize
+    requires { ⌜ at + 4 ≤ length (now buf) ⌝ }
+    requires { ⌜ n < 10000 ⌝ }
+    ensures { λ r. ⌜ Wrote 4 (four n) (now (buf .entry)) (now (buf .exit)) at r ⌝ }
+{
+    let next = put_pair(buf, at, n / 100);
+    put_pair(buf, next, n % 100)
+}
+
+// A number below 10,000, with no zero in front.
+fn put_small(buf: &mut [u8], at: usize, n: u32) -> usize
+    requires { ⌜ at + 4 ≤ length (now buf) ⌝ }
+    requires { ⌜ n < 10000 ⌝ }
+    ensures { λ r. ⌜ Wrote 4 (decimal n) (now (buf .entry)) (now (buf .exit)) at r ⌝ }
+{
+    if n < 10 {
+        return put_byte(buf, at, 48 + n as u8);
+    }
+    if n < 100 {
+        return put_pair(buf, at, n);
+    }
+    if n < 1000 {
+        let next = put_byte(buf, at, 48 + (n / 100) as u8);
+        return put_pair(buf, next, n % 100);
+    }
+    put_four(buf, at, n)
+}
+
+// A number: what is above its last four digits, then those.
+pub fn put_number(buf: &mut [u8], at: usize, n: u64) -> usize
+    requires { ⌜ at + 20 ≤ length (now buf) ⌝ }
+    ensures { λ r. ⌜ Wrote 20 (decimal n) (now (buf .entry)) (now (buf .exit)) at r ⌝ }
+{
+    if n < 10000 {
+        return put_small(buf, at, n as u32);
+    }
+    let next = put_number(buf, at, n / 10000);
+    put_four(buf, next, (n % 10000) as u32)
+}
