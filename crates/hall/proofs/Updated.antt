@@ -26,7 +26,7 @@ use Rattle.meaning.proofs.Labelled.{starts, owner-numbered}
 use Rattle.meaning.proofs.Updates.{Joined, Differ, Spans, differ-in, differ-out, in-span, node-small, winner-le, never, stays, joined, owner-alike, owner-once, via-owner, owner-source, listTo, list-none, list-more, list-still, entries-length, same-places, same-entries}
 use Rattle.hall.specs.Gathered.{Gathers, bestIn}
 use Rattle.hall.specs.Rows.{Split}
-use Rattle.hall.specs.Sweep.{Ready, Swept, SweptAll, entriesFrom, ownerBy, ownerFor, raised, heirOf}
+use Rattle.hall.specs.Sweep.{Ready, SweptAll, entriesFrom, ownerBy, ownerFor, raised, heirOf}
 use Rattle.hall.proofs.Rules.{best-gathered}
 
 -- ---- the tables after a sweep
@@ -45,7 +45,7 @@ module _ (m : State) (r w v f t : ℕ) (label owner : List ℕ) (W : Whole m lab
       → ownerIn owner (getD (m .number) q 0) u ≡ ownerWord m′ (winner m′ u (getD (m .cut) q 0))
   left u q hu hq d = W .owned .right q u hq hu ∙ D .alike u (getD (m .cut) q 0) (D .still u q hq d)
 
-  module _ (owner′ : List ℕ) (s : Swept (m .number) owner owner′ (m .atoms) v f t t g h) where
+  module _ {label′ owner′ list list′ : List ℕ} {count : ℕ} (s : SweptAll (m .cut) (m .number) (m .atoms) v f t g h label label′ owner owner′ list list′ count) where
     right : (u q : ℕ) → u < 16 → q < m .atoms → ownerIn owner′ (getD (m .number) q 0) u ≡ ownerWord m′ (winner m′ u (getD (m .cut) q 0))
     right u q hu hq = go (ℕ-discrete u v) (decLt q f) (decLt q t)
       where
@@ -53,27 +53,26 @@ module _ (m : State) (r w v f t : ℕ) (label owner : List ℕ) (W : Whole m lab
         small = omega (arith, W .sound .numbers .small q hq, W .sound .cuts .room)
 
         go : Dec (u ≡ v) → Dec (q < f) → Dec (q < t) → ownerIn owner′ (getD (m .number) q 0) u ≡ ownerWord m′ (winner m′ u (getD (m .cut) q 0))
-        go (no d) a b = s .nodes (getD (m .number) q 0) u small hu d ∙ left u q hu hq (λ x. d (x .0))
-        go (yes d) (yes a) b = rw d (s .places q hq (inl a) ∙ left v q (rw d at hu) hq (λ x. omega (arith, x .1)))
-        go (yes d) (no a) (no b) = rw d (s .places q hq (inr (omega arith)) ∙ left v q (rw d at hu) hq (λ x. omega (arith, x .2)))
-        go (yes d) (no a) (yes b) = rw d (s .done q (omega arith) b ∙ new q (omega arith) b)
+        go (no d) a b = s .owners .nodes (getD (m .number) q 0) u small hu d ∙ left u q hu hq (λ x. d (x .0))
+        go (yes d) (yes a) b = rw d (s .owners .places q hq (inl a) ∙ left v q (rw d at hu) hq (λ x. omega (arith, x .1)))
+        go (yes d) (no a) (no b) = rw d (s .owners .places q hq (inr (omega arith)) ∙ left v q (rw d at hu) hq (λ x. omega (arith, x .2)))
+        go (yes d) (no a) (yes b) = rw d (s .owners .done q (omega arith) b ∙ new q (omega arith) b)
 
     owned : Owned (withRule m r w) owner′
     owned = record {
-      long = s .long ∙ W .owned .long;
+      long = s .owners .long ∙ W .owned .long;
       right = unfold withRule in λ q u hq hu. right u q hu hq;
       rest = unfold withRule in λ k u a b hu. rest k u a b hu (ℕ-discrete u v);
     }
       where
         rest : (k u : ℕ) → m .atoms ≤ k → k < 512 → u < 16 → Dec (u ≡ v) → ownerIn owner′ k u ≡ 0
-        rest k u a b hu (no d) = s .nodes k u b hu d ∙ W .owned .rest k u a b hu
-        rest k u a b hu (yes d) = rw d (s .past k a b ∙ W .owned .rest k v a b (rw d at hu))
+        rest k u a b hu (no d) = s .owners .nodes k u b hu d ∙ W .owned .rest k u a b hu
+        rest k u a b hu (yes d) = rw d (s .owners .past k a b ∙ W .owned .rest k v a b (rw d at hu))
 
-  module _ {label′ owner′ list list′ : List ℕ} {count : ℕ} (s : SweptAll (m .cut) (m .number) (m .atoms) v f t g h label label′ owner owner′ list list′ count) where
     whole : Whole (withRule m r w) label′ owner′
     whole = record {
       sound = S′;
-      owned = owned owner′ (s .owners);
+      owned = owned;
       agrees = unfold withRule in s .labels (m .link) (W .agrees) (starts m label owner W) source;
     }
       where

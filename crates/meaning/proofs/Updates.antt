@@ -54,6 +54,7 @@ winner-le m S v a = ⊎-elim (λ x. omega (arith, x .0)) (λ x. omega (arith, x 
 
 -- ---- one rule more
 
+-- n has the rules of m and rule r besides, which has the word z and stands at node v
 pub record Joined (m n : State) (r z v : ℕ) : Type 0 where
   pub less : Sound m
   pub more : Sound n
