@@ -12,7 +12,7 @@ use lib.ListN.{length, getD, set}
 use borrow.Author.Tests.{ltb-true, ltb-false, lt-ltb, le-ltb, eq-eqb, ne-eqb}
 use Rattle.meaning.specs.Search.{pick}
 use Rattle.meaning.specs.Hall.{State, sourceOf}
-use Rattle.meaning.specs.Rule.{linkOf, rank, lower, upper, covers}
+use Rattle.meaning.specs.Rule.{linkOf, rank, upper, covers}
 use Rattle.meaning.specs.Winner.{better, ruleAt, eligible, winner, linkFor, nextAt}
 use Rattle.meaning.specs.Labels.{ownerWord}
 use Rattle.meaning.specs.Changes.{linkOrNone, changedAt, entryAt, entriesAt, overwrite}
@@ -24,14 +24,15 @@ use Rattle.meaning.proofs.Owners.{ownerIn, via, Owned, Whole, Listed, Numbered}
 use Rattle.meaning.proofs.Ranks.{take-first, take-higher, keep-lower}
 use Rattle.meaning.proofs.Labelled.{starts, owner-numbered}
 use Rattle.meaning.proofs.OneRule.{Joined, Differ, Spans, differ-in, differ-out, in-span, node-small, winner-le, never, stays, joined, owner-alike, owner-once, via-owner, owner-source, listTo, list-none, list-more, list-still, entries-length, same-places, same-entries}
-use Rattle.hall.specs.Gathered.{bestIn}
+use Rattle.hall.specs.Gathered.{Gathers, bestIn}
 use Rattle.hall.specs.Rows.{Split}
-use Rattle.hall.specs.Sweep.{Ready, Swept, SweptAll, entriesFrom, ownerBy, ownerFor, raised, heirOf}
+use Rattle.hall.specs.Sweep.{Ready, SweptAll, entriesFrom, ownerBy, ownerFor, raised, heirOf}
+use Rattle.hall.proofs.Rules.{best-gathered}
 
 -- ---- the tables after a sweep
 
 module _ (m : State) (r w v f t : ℕ) (label owner : List ℕ) (W : Whole m label owner) (S′ : Sound (withRule m r w))
-    (D : Differ m (withRule m r w) (m .cut) (m .atoms) v f t) (hv : v < 16) (order : f ≤ t) (within : t ≤ m .atoms) (h : ℕ → ℕ)
+    (D : Differ m (withRule m r w) (m .cut) (m .atoms) v f t) (h : ℕ → ℕ)
     (new : (q : ℕ) → f ≤ q → q < t → h q ≡ ownerWord (withRule m r w) (winner (withRule m r w) v (getD (m .cut) q 0))) where
   abbrev m′ : State
   m′ = withRule m r w
@@ -44,7 +45,7 @@ module _ (m : State) (r w v f t : ℕ) (label owner : List ℕ) (W : Whole m lab
       → ownerIn owner (getD (m .number) q 0) u ≡ ownerWord m′ (winner m′ u (getD (m .cut) q 0))
   left u q hu hq d = W .owned .right q u hq hu ∙ D .alike u (getD (m .cut) q 0) (D .still u q hq d)
 
-  module _ (owner′ : List ℕ) (s : Swept (m .number) owner owner′ (m .atoms) v f t h) where
+  module _ {label′ owner′ list list′ : List ℕ} {count : ℕ} (s : SweptAll (m .cut) (m .number) (m .atoms) v f t g h label label′ owner owner′ list list′ count) where
     right : (u q : ℕ) → u < 16 → q < m .atoms → ownerIn owner′ (getD (m .number) q 0) u ≡ ownerWord m′ (winner m′ u (getD (m .cut) q 0))
     right u q hu hq = go (ℕ-discrete u v) (decLt q f) (decLt q t)
       where
@@ -52,27 +53,26 @@ module _ (m : State) (r w v f t : ℕ) (label owner : List ℕ) (W : Whole m lab
         small = omega (arith, W .sound .numbers .small q hq, W .sound .cuts .room)
 
         go : Dec (u ≡ v) → Dec (q < f) → Dec (q < t) → ownerIn owner′ (getD (m .number) q 0) u ≡ ownerWord m′ (winner m′ u (getD (m .cut) q 0))
-        go (no d) a b = s .nodes (getD (m .number) q 0) u small hu d ∙ left u q hu hq (λ x. d (x .0))
-        go (yes d) (yes a) b = rw d (s .places q hq (inl a) ∙ left v q (rw d at hu) hq (λ x. omega (arith, x .1)))
-        go (yes d) (no a) (no b) = rw d (s .places q hq (inr (omega arith)) ∙ left v q (rw d at hu) hq (λ x. omega (arith, x .2)))
-        go (yes d) (no a) (yes b) = rw d (s .done q (omega arith) b ∙ new q (omega arith) b)
+        go (no d) a b = s .owners .nodes (getD (m .number) q 0) u small hu d ∙ left u q hu hq (λ x. d (x .0))
+        go (yes d) (yes a) b = rw d (s .owners .places q hq (inl a) ∙ left v q (rw d at hu) hq (λ x. omega (arith, x .1)))
+        go (yes d) (no a) (no b) = rw d (s .owners .places q hq (inr (omega arith)) ∙ left v q (rw d at hu) hq (λ x. omega (arith, x .2)))
+        go (yes d) (no a) (yes b) = rw d (s .owners .done q (omega arith) b ∙ new q (omega arith) b)
 
     owned : Owned (withRule m r w) owner′
     owned = record {
-      long = s .long ∙ W .owned .long;
+      long = s .owners .long ∙ W .owned .long;
       right = unfold withRule in λ q u hq hu. right u q hu hq;
       rest = unfold withRule in λ k u a b hu. rest k u a b hu (ℕ-discrete u v);
     }
       where
         rest : (k u : ℕ) → m .atoms ≤ k → k < 512 → u < 16 → Dec (u ≡ v) → ownerIn owner′ k u ≡ 0
-        rest k u a b hu (no d) = s .nodes k u b hu d ∙ W .owned .rest k u a b hu
-        rest k u a b hu (yes d) = rw d (s .past k a b ∙ W .owned .rest k v a b (rw d at hu))
+        rest k u a b hu (no d) = s .owners .nodes k u b hu d ∙ W .owned .rest k u a b hu
+        rest k u a b hu (yes d) = rw d (s .owners .past k a b ∙ W .owned .rest k v a b (rw d at hu))
 
-  module _ {label′ owner′ list list′ : List ℕ} {count : ℕ} (s : SweptAll (m .cut) (m .number) (m .atoms) v f t g h label label′ owner owner′ list list′ count) where
     whole : Whole (withRule m r w) label′ owner′
     whole = record {
       sound = S′;
-      owned = owned owner′ (s .owners);
+      owned = owned;
       agrees = unfold withRule in s .labels (m .link) (W .agrees) (starts m label owner W) source;
     }
       where
@@ -98,7 +98,7 @@ module _ (m : State) (r w v f t : ℕ) (label owner : List ℕ) (W : Whole m lab
       x = getD (m .cut) q 0
 
       old : g q ≡ ownerWord m (winner m v x)
-      old = W .owned .right q v (omega arith) hv
+      old = W .owned .right q v (omega arith) (D .node)
 
       go : Dec (winner m v x ≡ winner m′ v x) → pick (eqb (g q) (h q)) [] (getD (m .number) q 0 ∷ x ∷ getD (m .cut) (q + 1) 0 ∷ via (g q) ∷ via (h q) ∷ [])
           ≡ pick (not (eqb (winner m v x) (winner m′ v x))) (getD (m .number) q 0 ∷ x ∷ getD (m .cut) (q + 1) 0 ∷ linkOrNone (linkFor m (winner m v x)) ∷ linkOrNone (linkFor m′ (winner m′ v x)) ∷ []) []
@@ -282,21 +282,19 @@ module _ (m : State) (r z v f t : ℕ) {label owner : List ℕ} (W : Whole m lab
     pub taken-in : Joined m (withRule m r z) r z v → (o : State) → o .rule ≡ m .rule → o .link ≡ m .link → (k : ℕ) → k ≡ rank z
         → SweptAll (m .cut) (m .number) (m .atoms) v f t old (λ q. raised (m .rule) mine k (old q)) label label′ owner owner′ list list′ count
         → Listed o (withRule m r z) v label′ owner′ list list′ count
-    taken-in J o rules links k e = updated m r z v f t label owner W (J .more) (differ-in J (W .sound .cuts) P) (node-small J) (P .order) (P .within) _ (λ q a b.
+    taken-in J o rules links k e = updated m r z v f t label owner W (J .more) (differ-in J (W .sound .cuts) P) _ (λ q a b.
         let s = in-span (W .sound .cuts) P q a b in
         let x = getD (m .cut) q 0 in
         ap₂ (raised (m .rule) mine) e (old-is (node-small J) q b)
         ∙ raised-is m (withRule m r z) r z v J x mine is (sym (covers-in z x (s .0)) ∙ lt-ltb x (upper z) (s .1))) o rules links
 
     -- THE LAW of a remove
-    pub taken-out : Joined (withRule m r 0) m r z v → (among : List ℕ) (few : ℕ)
-        → ((a : ℕ) → lower z ≤ a → a < upper z
-        → bestIn (λ k. covers (getD (set (m .rule) r 0) k 0) a) (λ k. rank (getD (set (m .rule) r 0) k 0)) among few ≡ winner (withRule m r 0) v a)
+    pub taken-out : {among : List ℕ} {few : ℕ} → Joined (withRule m r 0) m r z v → Gathers (m .link) (set (m .rule) r 0) v z among few
         → SweptAll (m .cut) (m .number) (m .atoms) v f t old (λ q. heirOf (set (m .rule) r 0) among few mine (getD (m .cut) q 0) (old q)) label label′ owner owner′ list list′ count
         → Listed m (withRule m r 0) v label′ owner′ list list′ count
     unfolding withRule
-    taken-out J among few best = updated m r 0 v f t label owner W (J .less) (differ-out J (W .sound .cuts) P) (node-small J) (P .order) (P .within) _ (λ q a b.
+    taken-out {among} {few} J G = updated m r 0 v f t label owner W (J .less) (differ-out J (W .sound .cuts) P) _ (λ q a b.
         let s = in-span (W .sound .cuts) P q a b in
         let x = getD (m .cut) q 0 in
         ap (heirOf (set (m .rule) r 0) among few mine x) (old-is (node-small J) q b)
-        ∙ heir-is (withRule m r 0) m r z v J x mine is among few (best x (s .0) (s .1))) m refl refl
+        ∙ heir-is (withRule m r 0) m r z v J x mine is among few (best-gathered (withRule m r 0) v z x among few (J .less) G (s .0) (s .1))) m refl refl

@@ -54,6 +54,7 @@ winner-le m S v a = ⊎-elim (λ x. omega (arith, x .0)) (λ x. omega (arith, x 
 
 -- ---- one rule more
 
+-- n has the rules of m and rule r besides, which has the word z and stands at node v
 pub record Joined (m n : State) (r z v : ℕ) : Type 0 where
   pub less : Sound m
   pub more : Sound n
@@ -271,11 +272,17 @@ module _ {m n : State} {r z v : ℕ} (J : Joined m n r z v) where
 
 -- at node v from place f to below t at most; and the same winner is the same owner
 pub record Differ (m n : State) (cut : List ℕ) (k v f t : ℕ) : Type 0 where
+  pub node : v < 16
+  pub order : f ≤ t
+  pub within : t ≤ k
   pub alike : (u a : ℕ) → winner m u a ≡ winner n u a → ownerWord m (winner m u a) ≡ ownerWord n (winner n u a)
   pub still : (u q : ℕ) → q < k → ((u ≡ v) × (f ≤ q) × (q < t) → ⊥) → winner m u (getD cut q 0) ≡ winner n u (getD cut q 0)
 
 pub differ-in : {m n : State} {r z v : ℕ} {cut : List ℕ} {k f t : ℕ} → Joined m n r z v → Cuts top cut k → Spans cut k z f t → Differ m n cut k v f t
 differ-in {m} {n} {r} {z} {v} {cut} J C P = record {
+  node = node-small J;
+  order = P .order;
+  within = P .within;
   alike = owner-alike m n r z v J;
   still = λ u q h d. stays m n r z v J u (getD cut q 0) (λ e.
       let w = where-wins m n r z v J u (getD cut q 0) e in
@@ -286,7 +293,13 @@ differ-in {m} {n} {r} {z} {v} {cut} J C P = record {
 pub differ-out : {m n : State} {r z v : ℕ} {cut : List ℕ} {k f t : ℕ} → Joined m n r z v → Cuts top cut k → Spans cut k z f t → Differ n m cut k v f t
 differ-out J C P =
     let d = differ-in J C P in
-    record { alike = λ u a e. sym (d .alike u a (sym e)); still = λ u q h x. sym (d .still u q h x) }
+    record {
+      node = d .node;
+      order = d .order;
+      within = d .within;
+      alike = λ u a e. sym (d .alike u a (sym e));
+      still = λ u q h x. sym (d .still u q h x);
+    }
 
 -- ---- the list, place by place
 

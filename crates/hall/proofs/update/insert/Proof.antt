@@ -2,7 +2,7 @@
 -- to the rule where it has the highest rank. Assumes nothing.
 use mathlib.Core.Path.{_≡_, refl, sym, ap, ap₂, _∙_, subst⁻¹}
 use mathlib.Core.Bool.{false}
-use Prim.Native.Nat.{ℕ, _+_, _*_, _<_}
+use Prim.Native.Nat.{ℕ, _+_, _*_, _^_, _<_}
 use native.Mathlib.Omega.{arith}
 use denote.Ref.{now}
 use Rattle.meaning.specs.Hall.{State, sourceOf}
@@ -21,92 +21,115 @@ use borrow.Author.Needs.{needs}
 use Rattle.hall.proofs.update.insert.Statement.{statement}
 use Rattle.hall.proofs.update.insert.Tie as tie
 
--- the state at the call, and the new rule's word
-abbrev state : tie.Start → State
-state s = stateOf (s .args .h) (now (s .args .link)) (now (s .args .rule)) (now (s .args .cut)) (now (s .args .number))
+-- ---- at the call
 
-abbrev word : tie.Start → ℕ
-word s = ruleWord (s .args .x .link) (s .args .x .prefix) (s .args .x .length) (s .args .x .priority)
+module _ (s : tie.Start) where
+  -- the state, the record and the new rule's word
+  abbrev state : State
+  state = stateOf (s .args .h) (now (s .args .link)) (now (s .args .rule)) (now (s .args .cut)) (now (s .args .number))
 
-abbrev asked : tie.Start → Record
-asked s = insertion (s .args .r) (s .args .x .link) (s .args .x .prefix) (s .args .x .length) (s .args .x .priority)
+  abbrev asked : Record
+  asked = insertion (s .args .r) (s .args .x .link) (s .args .x .prefix) (s .args .x .length) (s .args .x .priority)
 
-sized : (s : tie.Start) → Sized (s .args .x .link) (s .args .x .prefix) (s .args .x .priority)
-sized s = record { link = omega arith; prefix = omega arith; priority = omega arith }
+  abbrev word : ℕ
+  word = ruleWord (s .args .x .link) (s .args .x .prefix) (s .args .x .length) (s .args .x .priority)
 
-passed : (s : tie.Start) → Clear (state s) (s .args .r) (s .args .x .link) (s .args .x .prefix) (s .args .x .length) (s .args .x .priority)
-passed s = clear (state s) (s .args .r) (s .args .x .link) (s .args .x .prefix) (s .args .x .length) (s .args .x .priority) (s .pre .1 .1)
+  sized : Sized (s .args .x .link) (s .args .x .prefix) (s .args .x .priority)
+  sized = record { link = omega arith; prefix = omega arith; priority = omega arith }
 
--- its ends
+  passed : Clear state (s .args .r) (s .args .x .link) (s .args .x .prefix) (s .args .x .length) (s .args .x .priority)
+  passed = clear state (s .args .r) (s .args .x .link) (s .args .x .prefix) (s .args .x .length) (s .args .x .priority) (s .pre .1 .1)
+
+  link-small : s .args .x .link < 64
+  link-small = omega (arith, passed .declared, s .pre .0 .sound .few)
+
+  mine-fits : s .args .x .link * 512 + s .args .r + 1 < 2 ^ 16
+  mine-fits = omega (arith, passed .number, link-small)
+
+  mine-is : s .args .x .link * 512 + s .args .r + 1 ≡ linkOf word * 512 + (s .args .r + 1)
+  mine-is = omega (arith, link-of (s .args .x .link) _ _ _ link-small (sized .prefix) (passed .long) (sized .priority))
+
+-- ---- the rule's ends
+
 module _ (c : tie.After-upper-of) where
-  abbrev start₀ : tie.Start
-  start₀ = c .before .before .before .before .before .before .before
+  abbrev at-call : tie.Start
+  at-call = c .before .before .before .before .before .before .before
 
-  low-is : c .before .lower-of .result ≡ lower (word start₀)
+  low-is : c .before .lower-of .result ≡ lower (word at-call)
   low-is = c .before .lower-of .ensures .0 ∙ ap lower (c .before .before .pack .ensures)
 
-  high-is : c .upper-of .result ≡ upper (word start₀)
+  high-is : c .upper-of .result ≡ upper (word at-call)
   high-is = c .upper-of .ensures .0 ∙ ap upper (c .before .before .pack .ensures)
 
--- the lower end is a boundary
+-- ---- the lower end is a boundary
+
 module _ (c : tie.After-make-boundary) where
-  abbrev start₁ : tie.Start
-  start₁ = c .before .before .before .before .before .before .before .before .before .before .before .before .before
+  abbrev at-ends : tie.After-upper-of
+  at-ends = c .before .before .before .before .before .before
 
-  abbrev state₁ : State
-  state₁ = cutAs (state start₁) (c .make-boundary .last .0) (c .make-boundary .last .1 .0) (c .make-boundary .result)
+  abbrev one : State
+  one = cutAs (state (at-call at-ends)) (c .make-boundary .last .0) (c .make-boundary .last .1 .0) (c .make-boundary .result)
 
-  first-is : state₁ ≡ withCut (state start₁) (lower (word start₁))
-  first-is = split-is (state start₁) _ (c .make-boundary .ensures .0) ∙ ap (withCut (state start₁)) (low-is (c .before .before .before .before .before .before))
+  one-is : one ≡ withCut (state (at-call at-ends)) (lower (word (at-call at-ends)))
+  one-is = split-is (state (at-call at-ends)) _ (c .make-boundary .ensures .0) ∙ ap (withCut (state (at-call at-ends))) (low-is at-ends)
 
-  first : Whole state₁ (c .make-boundary .last .1 .1 .0) (c .make-boundary .last .1 .1 .1 .0)
-  first = split-whole (state start₁) _ (c .make-boundary .ensures .0) (c .make-boundary .ensures .1 (state start₁) refl refl refl (start₁ .pre .0))
+  one-whole : Whole one (c .make-boundary .last .1 .1 .0) (c .make-boundary .last .1 .1 .1 .0)
+  one-whole =
+      split-whole (state (at-call at-ends)) _ (c .make-boundary .ensures .0)
+      (c .make-boundary .ensures .1 (state (at-call at-ends)) refl refl refl (at-call at-ends .pre .0))
 
--- and the upper end
+-- ---- and the upper end
+
 module _ (c : tie.After-make-boundary2) where
-  abbrev start₂ : tie.Start
-  start₂ = start₁ (c .before .before .before .before .before)
+  abbrev at-one : tie.After-make-boundary
+  at-one = c .before .before .before .before .before
 
-  abbrev state₂ : State
-  state₂ = cutAs (state start₂) (c .make-boundary2 .last .0) (c .make-boundary2 .last .1 .0) (c .make-boundary2 .result)
+  abbrev s : tie.Start
+  s = at-call (at-ends at-one)
+
+  abbrev two : State
+  two = cutAs (state s) (c .make-boundary2 .last .0) (c .make-boundary2 .last .1 .0) (c .make-boundary2 .result)
+
+  two-is : two ≡ withCut (withCut (state s) (lower (word s))) (upper (word s))
+  two-is = split-is (one at-one) _ (c .make-boundary2 .ensures .0) ∙ ap₂ withCut (one-is at-one) (high-is (at-ends at-one))
+
+  two-whole : Whole two (c .make-boundary2 .last .1 .1 .0) (c .make-boundary2 .last .1 .1 .1 .0)
+  two-whole =
+      split-whole (one at-one) _ (c .make-boundary2 .ensures .0)
+      (c .make-boundary2 .ensures .1 (one at-one) refl refl refl (one-whole at-one))
 
   abbrev node : ℕ
-  node = c .before .before .before .before .before .before .before .before .before .before .before .before .before .before .source-of .result
+  node = at-ends at-one .before .before .before .source-of .result
 
-  both-are : state₂ ≡ withCut (withCut (state start₂) (lower (word start₂))) (upper (word start₂))
-  both-are = split-is (state₁ (c .before .before .before .before .before)) _ (c .make-boundary2 .ensures .0) ∙ ap₂ withCut (first-is (c .before .before .before .before .before)) (high-is (c .before .before .before .before .before .before .before .before .before .before .before))
-
-  both : Whole state₂ (c .make-boundary2 .last .1 .1 .0) (c .make-boundary2 .last .1 .1 .1 .0)
-  both = split-whole (state₁ (c .before .before .before .before .before)) _ (c .make-boundary2 .ensures .0) (c .make-boundary2 .ensures .1 (state₁ (c .before .before .before .before .before)) refl refl refl (first (c .before .before .before .before .before)))
-
-  node-is : node ≡ nodeOf (state start₂) (asked start₂)
+  node-is : node ≡ nodeOf (state s) (asked s)
   unfolding nodeOf sourceOf
-  node-is = c .before .before .before .before .before .before .before .before .before .before .before .before .before .before .source-of .ensures .0
+  node-is = at-ends at-one .before .before .before .source-of .ensures .0
 
-  joined : Joined state₂ (withRule state₂ (start₂ .args .r) (word start₂)) (start₂ .args .r) (word start₂) node
-  joined = comes (state start₂) (start₂ .args .r) _ _ _ _ (start₂ .pre .0 .sound) (sized start₂) (start₂ .pre .1 .0) (start₂ .pre .1 .1) state₂ both-are (both .sound) node node-is
+  joined : Joined two (withRule two (s .args .r) (word s)) (s .args .r) (word s) node
+  joined = comes (state s) (s .args .r) _ _ _ _ (s .pre .0 .sound) (sized s) (s .pre .1 .0) (s .pre .1 .1) two two-is (two-whole .sound) node node-is
 
-  left : withRule state₂ (start₂ .args .r) (word start₂) ≡ leaves (state start₂) (asked start₂)
+  left-is : withRule two (s .args .r) (word s) ≡ leaves (state s) (asked s)
   unfolding leaves inserted
-  left = ap (λ (m : State). withRule m (start₂ .args .r) (word start₂)) both-are
+  left-is = ap (λ (m : State). withRule m (s .args .r) (word s)) two-is
 
-  mine-is : start₂ .args .x .link * 512 + start₂ .args .r + 1 ≡ linkOf (word start₂) * 512 + (start₂ .args .r + 1)
-  mine-is =
-      let C = passed start₂ in
-      let F = sized start₂ in
-      omega (arith, link-of (start₂ .args .x .link) _ _ _ (omega (arith, C .declared, start₂ .pre .0 .sound .few)) (F .prefix) (C .long) (F .priority))
+-- ---- the places between them
 
--- the places between them
 module _ (c : tie.After-place-of2) where
-  abbrev cut-at : tie.After-make-boundary2
-  cut-at = c .before .before .before .before
+  abbrev at-two : tie.After-make-boundary2
+  at-two = c .before .before .before .before
 
-  spans : Spans (state₂ cut-at .cut) (state₂ cut-at .atoms) (word (start₂ cut-at)) (c .before .before .place-of .result .0) (c .place-of2 .result .0)
+  spans : Spans (two at-two .cut) (two at-two .atoms) (word (s at-two)) (c .before .before .place-of .result .0) (c .place-of2 .result .0)
   unfolding withRule
   spans =
-      let at = placeOf (state₂ cut-at .cut) (state₂ cut-at .atoms) in
-      let ends = c .before .before .before .before .before .before .before .before .before .before .before .before .before .before .before in
-      rule-spans (joined cut-at) (c .before .before .place-of .ensures .0 ∙ ap at (low-is ends)) (c .place-of2 .ensures .0 ∙ ap at (high-is ends))
+      let at = placeOf (two at-two .cut) (two at-two .atoms) in
+      let ends = at-ends (at-one at-two) in
+      rule-spans (joined at-two) (c .before .before .place-of .ensures .0 ∙ ap at (low-is ends)) (c .place-of2 .ensures .0 ∙ ap at (high-is ends))
+
+-- after the sweep
+abbrev at-places : tie.After-slice-known2 → tie.After-place-of2
+at-places c = c .before .before .before .before .before .before .before .before .before .before .before
+
+-- ---- the needs
 
 cast-l : tie.Need-cast-l
 cast-l c = search needs
@@ -115,13 +138,13 @@ mul-source-of : tie.Need-mul-source-of
 mul-source-of c = search needs
 
 element-copy-out-source-of : tie.Need-element-copy-out-source-of
-element-copy-out-source-of c = omega (arith, passed (c .before .before) .declared, c .before .before .pre .0 .sound .few)
+element-copy-out-source-of c = link-small (c .before .before)
 
 source-of-requires : tie.Need-source-of-requires
 source-of-requires c κs = search needs
 
 pack-requires : tie.Need-pack-requires
-pack-requires c κs = (omega (arith, passed (c .before .before .before .before) .declared, c .before .before .before .before .pre .0 .sound .few), passed (c .before .before .before .before) .long)
+pack-requires c κs = let s = c .before .before .before .before in (link-small s, passed s .long)
 
 lower-of-requires : tie.Need-lower-of-requires
 lower-of-requires c κs = search needs
@@ -134,49 +157,50 @@ cast-make-boundary c = search needs
 
 make-boundary-requires : tie.Need-make-boundary-requires
 make-boundary-requires c κs =
-    let s = c .before .before .before .before .before .before .before .before .before .before .before .before in
-    let W = s .pre .0 in
-    let low = low-is (c .before .before .before .before .before) in
-    let r = room-lower (state s) (W .sound) (s .args .r) _ _ _ _ (sized s) (s .pre .1 .0) (passed s) in (
-      W .sound .cuts,
-      W .sound .numbers,
-      omega (arith, low, lower-top (state s) (W .sound) (s .args .r) _ _ _ _ (sized s) (s .pre .1 .0) (passed s)),
-      λ e. r (sym (ap (isCut (now (s .args .cut)) (s .args .h .atoms)) low) ∙ e),
-      W .owned .long,
+    let e = c .before .before .before .before .before in
+    let s = at-call e in
+    let S = s .pre .0 .sound in
+    let room = room-lower (state s) S (s .args .r) _ _ _ _ (sized s) (s .pre .1 .0) (passed s) in
+    let below = lower-top (state s) S (s .args .r) _ _ _ _ (sized s) (s .pre .1 .0) (passed s) in (
+      S .cuts,
+      S .numbers,
+      omega (arith, low-is e, below),
+      λ h. room (sym (ap (isCut (state s .cut) (state s .atoms)) (low-is e)) ∙ h),
+      s .pre .0 .owned .long,
     )
 
 make-boundary-requires-2 : tie.Need-make-boundary-requires-2
 make-boundary-requires-2 c κs =
     let b = c .before .before .before .before in
-    let s = start₁ b in
-    let W = first b in
-    let high = high-is (b .before .before .before .before .before .before) in
-    let r = subst⁻¹ (λ (m : State). isCut (m .cut) (m .atoms) (upper (word s)) ≡ false → m .atoms < 512) (first-is b)
-    (room-upper (state s) (s .pre .0 .sound) (s .args .r) _ _ _ _ (sized s) (s .pre .1 .0) (passed s)) in (
-      W .sound .cuts,
-      W .sound .numbers,
-      omega (arith, high, upper-top (state s) (s .pre .0 .sound) (s .args .r) _ _ _ _ (sized s) (s .pre .1 .0) (passed s)),
-      λ e. r (sym (ap (isCut (state₁ b .cut) (state₁ b .atoms)) high) ∙ e),
-      W .owned .long,
+    let e = at-ends b in
+    let s = at-call e in
+    let S = s .pre .0 .sound in
+    let room = subst⁻¹ (λ (m : State). isCut (m .cut) (m .atoms) (upper (word s)) ≡ false → m .atoms < 512) (one-is b) (room-upper (state s) S (s .args .r) _ _ _ _ (sized s) (s .pre .1 .0) (passed s)) in
+    let below = upper-top (state s) S (s .args .r) _ _ _ _ (sized s) (s .pre .1 .0) (passed s) in (
+      one-whole b .sound .cuts,
+      one-whole b .sound .numbers,
+      omega (arith, high-is e, below),
+      λ h. room (sym (ap (isCut (one b .cut) (one b .atoms)) (high-is e)) ∙ h),
+      one-whole b .owned .long,
     )
 
 place-of-requires : tie.Need-place-of-requires
-place-of-requires c κs = both (c .before) .sound .cuts
+place-of-requires c κs = two-whole (c .before) .sound .cuts
 
 place-of-requires-2 : tie.Need-place-of-requires-2
-place-of-requires-2 c κs = both (c .before .before .before) .sound .cuts
+place-of-requires-2 c κs = two-whole (c .before .before .before) .sound .cuts
 
 cast-mine : tie.Need-cast-mine
 cast-mine c = search needs
 
 mul-mine : tie.Need-mul-mine
-mul-mine c = let s = c .before .before .before .before .before .before .before .before .before .before .before .before .before .before .before .before .before .before .before .before .before .before .before in omega (arith, passed s .number, passed s .declared, s .pre .0 .sound .few)
+mul-mine c = omega (arith, mine-fits (s (at-two (c .before))))
 
 add-mine : tie.Need-add-mine
-add-mine c = let s = c .before .before .before .before .before .before .before .before .before .before .before .before .before .before .before .before .before .before .before .before .before .before .before in omega (arith, passed s .number, passed s .declared, s .pre .0 .sound .few)
+add-mine c = omega (arith, mine-fits (s (at-two (c .before))))
 
 add-mine-2 : tie.Need-add-mine-2
-add-mine-2 c = let s = c .before .before .before .before .before .before .before .before .before .before .before .before .before .before .before .before .before .before .before .before .before .before .before in omega (arith, passed s .number, passed s .declared, s .pre .0 .sound .few)
+add-mine-2 c = omega (arith, mine-fits (s (at-two (c .before))))
 
 rank-of-requires : tie.Need-rank-of-requires
 rank-of-requires c κs = search needs
@@ -184,20 +208,22 @@ rank-of-requires c κs = search needs
 take-over-requires : tie.Need-take-over-requires
 take-over-requires c κs =
     let p = c .before .before .before .before .before .before .before .before in
-    let b = cut-at p in
-    (ready (both b) (node-small (joined b)) (spans p) (start₂ b .pre .1 .2), numbered (state₂ b) _ _ (both b))
+    let b = at-two p in
+    (ready (two-whole b) (node-small (joined b)) (spans p) (s b .pre .1 .2), numbered (two b) _ _ (two-whole b))
 
 mul-rule : tie.Need-mul-rule
-mul-rule c = let s = c .before .before .before .before .before .before .before .before .before .before .before .before .before .before .before .before .before .before .before .before .before .before .before .before .before .before .before .before .before .before .before .before .before in omega (arith, passed s .number)
+mul-rule c = omega (arith, passed (s (at-two (at-places c))) .number)
 
 element-write-rule : tie.Need-element-write-rule
-element-write-rule c = passed (c .before .before .before .before .before .before .before .before .before .before .before .before .before .before .before .before .before .before .before .before .before .before .before .before .before .before .before .before .before .before .before .before .before) .number
+element-write-rule c = passed (s (at-two (at-places c))) .number
 
 cast-t38 : tie.Need-cast-t38
-cast-t38 c = omega (arith, both (c .before .before .before .before .before .before .before .before .before .before .before .before .before .before .before) .sound .cuts .room)
+cast-t38 c = omega (arith, two-whole (at-two (at-places c)) .sound .cuts .room)
 
 cast-t26 : tie.Need-cast-t26
-cast-t26 c = let p = c .before .before .before .before .before .before .before .before .before .before .before in omega (arith, c .before .before .take-over .ensures .words .few, spans p .within, both (cut-at p) .sound .cuts .room)
+cast-t26 c =
+    let p = at-places c in
+    omega (arith, c .before .before .take-over .ensures .words .few, spans p .within, two-whole (at-two p) .sound .cuts .room)
 
 same-length : tie.Need-same-length
 same-length c = search needs
@@ -205,14 +231,14 @@ same-length c = search needs
 returns : tie.Need-returns
 unfolding withRule
 returns c =
-    let p = c .before .before .before .before .before .before .before .before .before .before .before in
-    let b = cut-at p in
-    let s = start₂ b in
-    let w = c .before .before .before .before .before .before .before .before .before .before .before .before .before .before .before .before .before .before .before .before .before .before .before .before .before .before .before .before .pack .ensures in (
-      ap (withRule (state₂ b) (s .args .r)) w ∙ left b,
-      listed-as (left b) (node-is b)
-          (taken-in (state₂ b) (s .args .r) (word s) (node b) _ _ (both b) (spans p) _ (mine-is b) (joined b) (state s) refl refl _ (c .before .before .before .before .before .before .before .before .before .rank-of .ensures .0 ∙ ap rank w)
-          (c .before .before .take-over .ensures)),
+    let p = at-places c in
+    let b = at-two p in
+    let r = s b .args .r in
+    let w = at-ends (at-one b) .before .before .pack .ensures in
+    let k = c .before .before .before .before .before .before .before .before .before .rank-of .ensures .0 ∙ ap rank w in (
+      ap (withRule (two b) r) w ∙ left-is b,
+      listed-as (left-is b) (node-is b)
+          (taken-in (two b) r (word (s b)) (node b) _ _ (two-whole b) (spans p) _ (mine-is (s b)) (joined b) (state (s b)) refl refl _ k (c .before .before .take-over .ensures)),
     )
 
 pub insert-spec : {M : Type 1} → statement M

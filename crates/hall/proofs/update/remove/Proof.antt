@@ -13,42 +13,65 @@ use Rattle.meaning.specs.Box.{stateOf}
 use Rattle.meaning.specs.declared.Record.the-variants.{Remove as removal}
 use Rattle.meaning.specs.Step.{withRule, leaves, nodeOf}
 use Rattle.meaning.proofs.OneRule.{Joined, Spans, goes, rule-spans, node-small}
-use Rattle.hall.proofs.Rules.{best-gathered}
-use Rattle.hall.proofs.Updated.{ready, taken-out}
+use Rattle.hall.proofs.Updated.{ready, listed-as, taken-out}
 use borrow.Author.Needs.{needs}
 use Rattle.hall.proofs.update.remove.Statement.{statement}
 use Rattle.hall.proofs.update.remove.Tie as tie
 
--- the state at the call, and the rule that goes
-abbrev state : tie.Start → State
-state s = stateOf (s .args .h) (now (s .args .link)) (now (s .args .rule)) (now (s .args .cut)) (now (s .args .number))
+-- ---- at the call
 
-going : (s : tie.Start) (v : ℕ) → v ≡ nodeOf (state s) (removal (s .args .r))
-    → Joined (withRule (state s) (s .args .r) 0) (state s) (s .args .r) (ruleAt (state s) (s .args .r)) v
-going s = goes (state s) (s .args .r) (s .pre .0 .sound) (s .pre .1 .0) (s .pre .1 .1)
+module _ (s : tie.Start) where
+  -- the state, and the word of the rule that goes
+  abbrev state : State
+  state = stateOf (s .args .h) (now (s .args .link)) (now (s .args .rule)) (now (s .args .cut)) (now (s .args .number))
 
--- what the calls before the sweep have found
-abbrev start : tie.After-gather → tie.Start
-start c = c .before .before .before .before .before .before .before .before .before .before .before .before .before
+  abbrev word : ℕ
+  word = ruleAt state (s .args .r)
 
-node : (c : tie.After-gather) → c .before .before .before .before .before .before .before .before .source-of .result ≡ nodeOf (state (start c)) (removal (start c .args .r))
-unfolding nodeOf sourceOf ruleAt
-node c = c .before .before .before .before .before .before .before .before .source-of .ensures .0 ∙ ap (λ (l : ℕ). getD (now (start c .args .link)) l 0 / 1024) (c .before .before .before .before .before .before .before .before .before .before .link-of .ensures .0)
+  going : (v : ℕ) → v ≡ nodeOf state (removal (s .args .r)) → Joined (withRule state (s .args .r) 0) state (s .args .r) word v
+  going = goes state (s .args .r) (s .pre .0 .sound) (s .pre .1 .0) (s .pre .1 .1)
 
-joined : (c : tie.After-gather)
-    → Joined (withRule (state (start c)) (start c .args .r) 0) (state (start c)) (start c .args .r) (ruleAt (state (start c)) (start c .args .r)) (c .before .before .before .before .before .before .before .before .source-of .result)
-joined c = going (start c) _ (node c)
+-- ---- its node and its places
 
-spans : (c : tie.After-gather)
-    → Spans (now (start c .args .cut)) (start c .args .h .atoms) (ruleAt (state (start c)) (start c .args .r)) (c .before .before .before .before .before .place-of .result .0) (c .before .before .before .place-of2 .result .0)
-unfolding ruleAt
-spans c =
-    let at = placeOf (now (start c .args .cut)) (start c .args .h .atoms) in
-    rule-spans (joined c) (c .before .before .before .before .before .place-of .ensures .0 ∙ ap at (c .before .before .before .before .before .before .lower-of .ensures .0)) (c .before .before .before .place-of2 .ensures .0 ∙ ap at (c .before .before .before .before .upper-of .ensures .0))
+module _ (c : tie.After-source-of) where
+  abbrev s : tie.Start
+  s = c .before .before .before .before .before
 
-gone-is : (c : tie.After-gather) → c .before .before .before .before .before .before .before .before .before .before .link-of .result * 512 + start c .args .r + 1 ≡ linkOf (ruleAt (state (start c)) (start c .args .r)) * 512 + (start c .args .r + 1)
-unfolding ruleAt
-gone-is c = omega (arith, c .before .before .before .before .before .before .before .before .before .before .link-of .ensures .0)
+  abbrev node : ℕ
+  node = c .source-of .result
+
+  node-is : node ≡ nodeOf (state s) (removal (s .args .r))
+  unfolding nodeOf sourceOf ruleAt
+  node-is = c .source-of .ensures .0 ∙ ap (λ (l : ℕ). getD (now (s .args .link)) l 0 / 1024) (c .before .before .link-of .ensures .0)
+
+  joined : Joined (withRule (state s) (s .args .r) 0) (state s) (s .args .r) (word s) node
+  joined = going s node node-is
+
+  gone-is : c .before .before .link-of .result * 512 + s .args .r + 1 ≡ linkOf (word s) * 512 + (s .args .r + 1)
+  unfolding ruleAt
+  gone-is = omega (arith, c .before .before .link-of .ensures .0)
+
+module _ (c : tie.After-place-of2) where
+  abbrev at-node : tie.After-source-of
+  at-node = c .before .before .before .before .before
+
+  spans : Spans (now (s at-node .args .cut)) (s at-node .args .h .atoms) (word (s at-node)) (c .before .before .place-of .result .0) (c .place-of2 .result .0)
+  unfolding ruleAt
+  spans =
+      let at = placeOf (now (s at-node .args .cut)) (s at-node .args .h .atoms) in
+      rule-spans (joined at-node) (c .before .before .place-of .ensures .0 ∙ ap at (c .before .before .before .lower-of .ensures .0))
+      (c .place-of2 .ensures .0 ∙ ap at (c .before .upper-of .ensures .0))
+
+-- ---- the rules that are left
+
+abbrev at-places : tie.After-gather → tie.After-place-of2
+at-places c = c .before .before .before
+
+-- after the sweep
+abbrev at-gather : tie.After-slice-known2 → tie.After-gather
+at-gather c = c .before .before .before .before .before .before .before .before
+
+-- ---- the needs
 
 mul-w : tie.Need-mul-w
 mul-w c = search needs
@@ -87,7 +110,7 @@ mul-rule : tie.Need-mul-rule
 mul-rule c = search needs
 
 element-write-rule : tie.Need-element-write-rule
-element-write-rule c = going (c .before .before .before .before .before .before .before .before .before .before) _ refl .slot
+element-write-rule c = joined (at-node c) .slot
 
 gather-requires : tie.Need-gather-requires
 gather-requires c κs = search needs
@@ -99,21 +122,22 @@ mul-gone : tie.Need-mul-gone
 mul-gone c = search needs
 
 add-gone : tie.Need-add-gone
-add-gone c = omega (arith, going (start c) _ refl .slot, c .before .before .before .before .before .before .before .before .before .before .link-of .ensures .1)
+add-gone c = let n = at-node (at-places c) in omega (arith, joined n .slot, n .before .before .link-of .ensures .1)
 
 add-gone-2 : tie.Need-add-gone-2
-add-gone-2 c = omega (arith, going (start c) _ refl .slot, c .before .before .before .before .before .before .before .before .before .before .link-of .ensures .1)
+add-gone-2 c = let n = at-node (at-places c) in omega (arith, joined n .slot, n .before .before .link-of .ensures .1)
 
 hand-on-requires : tie.Need-hand-on-requires
 hand-on-requires c κs =
-    let b = c .before .before .before .before .before in
-    let g = b .gather .ensures in
-    (ready (start b .pre .0) (node-small (joined b)) (spans b) (start b .pre .1 .2), g .few, g .within)
+    let g = c .before .before .before .before .before in
+    let p = at-places g in
+    let n = at-node p in
+    (ready (s n .pre .0) (node-small (joined n)) (spans p) (s n .pre .1 .2), g .gather .ensures .few, g .gather .ensures .within)
 
 cast-t27 : tie.Need-cast-t27
 cast-t27 c =
-    let b = c .before .before .before .before .before .before .before .before in
-    record { fits = omega (arith, c .before .before .hand-on .ensures .words .few, spans b .within, start b .pre .0 .sound .cuts .room) }
+    let p = at-places (at-gather c) in
+    omega (arith, c .before .before .hand-on .ensures .words .few, spans p .within, s (at-node p) .pre .0 .sound .cuts .room)
 
 same-length : tie.Need-same-length
 same-length c = search needs
@@ -121,14 +145,13 @@ same-length c = search needs
 returns : tie.Need-returns
 unfolding leaves withRule ruleAt
 returns c =
-    let b = c .before .before .before .before .before .before .before .before in
-    let s = start b in
-    let g = b .gather in (
+    let g = at-gather c .gather in
+    let p = at-places (at-gather c) in
+    let n = at-node p in
+    let r = s n .args .r in (
       refl,
-      rw (← (node b))
-          (taken-out (state s) (s .args .r) (ruleAt (state s) (s .args .r)) _ _ _ (s .pre .0) (spans b) _ (gone-is b) (joined b) _ (g .result)
-          (λ a from below. best-gathered (withRule (state s) (s .args .r) 0) _ _ a _ (g .result) (joined b .less) (g .ensures) from below)
-          (c .before .before .hand-on .ensures)),
+      listed-as refl (node-is n)
+          (taken-out (state (s n)) r (word (s n)) (node n) _ _ (s n .pre .0) (spans p) _ (gone-is n) (joined n) (g .ensures) (c .before .before .hand-on .ensures)),
     )
 
 pub remove-spec : {M : Type 1} → statement M
