@@ -72,9 +72,9 @@ module _ (cut : List ℕ) (P : ℕ → Bool) where
 abbrev pub linksAt : List ℕ → List ℕ → ℕ → ℕ → Option ℕ
 linksAt number owner p = nextIn owner (getD number p 0)
 
--- no node below n lies on a circle of the atom at place p
-abbrev pub NoCircle : List ℕ → List ℕ → List ℕ → ℕ → ℕ → ℕ → Type 0
-NoCircle link number owner nodes p n = (u : ℕ) → u < n → onCircle (linksAt number owner p) (endIn link) nodes u ≡ false
+-- no node below n lies on a circle
+abbrev pub NoCircle : (ℕ → Option ℕ) → (ℕ → ℕ) → ℕ → ℕ → Type 0
+NoCircle next end nodes n = (u : ℕ) → u < n → onCircle next end nodes u ≡ false
 
 -- at no place below n the walk from v comes to w
 abbrev pub NotCome : List ℕ → List ℕ → List ℕ → ℕ → ℕ → ℕ → ℕ → Type 0
@@ -122,7 +122,7 @@ module _ (m : State) (label owner : List ℕ) (W : Whole m label owner) where
     circle-same u = rw (links-are p h, end-is m)
 
     -- where no node lies on a circle, no walk goes round
-    no-loop : NoCircle (m .link) (m .number) owner (m .nodes) p (m .nodes) → loopsAt m (getD (m .cut) p 0) ≡ false
+    no-loop : NoCircle (linksAt (m .number) owner p) (endIn (m .link)) (m .nodes) (m .nodes) → loopsAt m (getD (m .cut) p 0) ≡ false
     no-loop f = go (loopsAt m (getD (m .cut) p 0)) refl
       where
         go : (t : Bool) → loopsAt m (getD (m .cut) p 0) ≡ t → t ≡ false
@@ -138,13 +138,13 @@ module _ (m : State) (label owner : List ℕ) (W : Whole m label owner) where
         let o = circle-is f (endOf m) (m .nodes) c v l .0 (sym (circle-same v) ∙ e) in
         any-true _ (m .nodes) v l (round-is f (endOf m) (m .nodes) c v l .1 (circle-never f (endOf m) v o))
 
-  pub loop-none : ((p : ℕ) → p < m .atoms → NoCircle (m .link) (m .number) owner (m .nodes) p (m .nodes)) → byAddress m loop ≡ NoLoop
+  pub loop-none : ((p : ℕ) → p < m .atoms → NoCircle (linksAt (m .number) owner p) (endIn (m .link)) (m .nodes) (m .nodes)) → byAddress m loop ≡ NoLoop
   unfolding byPlace asked loopFrom
   loop-none f = places loop ∙ ap (loopFrom m) (least-none (m .cut) (loopsAt m) (m .atoms) (λ p h. no-loop p h (f p h)))
 
   -- THE SEARCH: the first place with a node on a circle, and the first such node there
-  pub loop-is : (p v : ℕ) → p < m .atoms → v < m .nodes → ((q : ℕ) → q < p → NoCircle (m .link) (m .number) owner (m .nodes) q (m .nodes))
-      → NoCircle (m .link) (m .number) owner (m .nodes) p v → onCircle (linksAt (m .number) owner p) (endIn (m .link)) (m .nodes) v ≡ true
+  pub loop-is : (p v : ℕ) → p < m .atoms → v < m .nodes → ((q : ℕ) → q < p → NoCircle (linksAt (m .number) owner q) (endIn (m .link)) (m .nodes) (m .nodes))
+      → NoCircle (linksAt (m .number) owner p) (endIn (m .link)) (m .nodes) v → onCircle (linksAt (m .number) owner p) (endIn (m .link)) (m .nodes) v ≡ true
       → byAddress m loop ≡ Loop (getD (m .cut) p 0) v
   unfolding byPlace asked loopFrom someNode circleAt
   loop-is p v h l before f e =
