@@ -1,5 +1,5 @@
 -- The questions as code asks them: place by place by rising address, each by the owners of the atom there. Assumes nothing.
-use mathlib.Core.Path.{_≡_, refl, sym, ap, ap₂, _∙_}
+use mathlib.Core.Path.{_≡_, refl, sym, ap, _∙_}
 use mathlib.Core.Bool.{Bool, true, false}
 use mathlib.Core.List.{List}
 use mathlib.Core.Option.{Option, none, some}
@@ -14,10 +14,10 @@ use Rattle.meaning.specs.declared.Fate.{Fate}
 use Rattle.meaning.specs.declared.Answer.the-variants.{Loop, NoLoop, Yes, No, Tally}
 use Rattle.meaning.specs.declared.Record.{Record}
 use Rattle.meaning.specs.declared.Record.the-variants.{Loop as loop, Reach as reach, Tally as tally}
-use Rattle.meaning.specs.Search.{pick, orElse, lowestBelow}
+use Rattle.meaning.specs.Search.{pick, orElse}
 use Rattle.meaning.specs.Hall.{top, State, endOf}
 use Rattle.meaning.specs.Winner.{nextAt}
-use Rattle.meaning.specs.Walk.{goesRound, onCircle, comesTo, fateIn}
+use Rattle.meaning.specs.Walk.{onCircle, comesTo, fateIn}
 use Rattle.meaning.specs.Questions.{leastPlace, countPlace, fateOf, loopsAt, circleAt, someNode, loopFrom, reachesAt, reachFrom, isOut, isLost, isRound, asked, byAddress, byPlace}
 use Rattle.meaning.proofs.Tables.{Cuts, Holds}
 use Rattle.meaning.proofs.Places.{cut-top}
