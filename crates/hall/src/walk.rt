@@ -82,7 +82,8 @@ pub enum Seen {
     Off(u16),
 }
 
-// Whether node v lies on a circle of an atom. A walk that ends, or comes to a node of `off`, passed no node of a circle.
+// Whether node v lies on a circle of an atom. Where its walk ends, or comes to a node of `off`, the nodes passed lie on none and join
+// `off`: so no node is walked from again that is seen to end.
 pub fn look(link: &[u16; 64], owner: &[u16; 8192], atom: usize, n: u8, v: u8, off: u16) -> Seen
     requires { ⌜ (atom < 512) × (v < 16) × (n ≤ 16) × Ends (now link) (now owner) × Off (nextIn (now owner) atom) (endIn (now link)) n off ⌝ }
     ensures { λ r. ⌜ seen (nextIn (now (owner .entry)) atom) (endIn (now (link .entry))) n v r ⌝ }

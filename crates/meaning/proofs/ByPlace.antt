@@ -1,5 +1,5 @@
 -- The questions as code asks them: place by place by rising address, each by the owners of the atom there. Assumes nothing.
-use mathlib.Core.Path.{_≡_, refl, sym, ap, ap₂, _∙_}
+use mathlib.Core.Path.{_≡_, refl, sym, ap, _∙_}
 use mathlib.Core.Bool.{Bool, true, false}
 use mathlib.Core.List.{List}
 use mathlib.Core.Option.{Option, none, some}
@@ -14,10 +14,10 @@ use Rattle.meaning.specs.declared.Fate.{Fate}
 use Rattle.meaning.specs.declared.Answer.the-variants.{Loop, NoLoop, Yes, No, Tally}
 use Rattle.meaning.specs.declared.Record.{Record}
 use Rattle.meaning.specs.declared.Record.the-variants.{Loop as loop, Reach as reach, Tally as tally}
-use Rattle.meaning.specs.Search.{pick, orElse, lowestBelow}
+use Rattle.meaning.specs.Search.{pick, orElse}
 use Rattle.meaning.specs.Hall.{top, State, endOf}
 use Rattle.meaning.specs.Winner.{nextAt}
-use Rattle.meaning.specs.Walk.{goesRound, onCircle, comesTo, fateIn}
+use Rattle.meaning.specs.Walk.{onCircle, comesTo, fateIn}
 use Rattle.meaning.specs.Questions.{leastPlace, countPlace, fateOf, loopsAt, circleAt, someNode, loopFrom, reachesAt, reachFrom, isOut, isLost, isRound, asked, byAddress, byPlace}
 use Rattle.meaning.proofs.Tables.{Cuts, Holds}
 use Rattle.meaning.proofs.Places.{cut-top}
@@ -73,9 +73,9 @@ module _ (cut : List ℕ) (P : ℕ → Bool) where
 abbrev pub linksAt : List ℕ → List ℕ → ℕ → ℕ → Option ℕ
 linksAt number owner p = nextIn owner (getD number p 0)
 
--- no node below n lies on a circle of the atom at place p
-abbrev pub NoCircle : List ℕ → List ℕ → List ℕ → ℕ → ℕ → ℕ → Type 0
-NoCircle link number owner nodes p n = (u : ℕ) → u < n → onCircle (linksAt number owner p) (endIn link) nodes u ≡ false
+-- no node below n lies on a circle
+abbrev pub NoCircle : (ℕ → Option ℕ) → (ℕ → ℕ) → ℕ → ℕ → Type 0
+NoCircle next end nodes n = (u : ℕ) → u < n → onCircle next end nodes u ≡ false
 
 -- at no place below n the walk from v comes to w
 abbrev pub NotCome : List ℕ → List ℕ → List ℕ → ℕ → ℕ → ℕ → ℕ → Type 0
@@ -123,7 +123,7 @@ module _ (m : State) (label owner : List ℕ) (W : Whole m label owner) where
     circle-same u = rw (links-are p h, end-is m)
 
     -- where no node lies on a circle, no walk goes round
-    no-loop : NoCircle (m .link) (m .number) owner (m .nodes) p (m .nodes) → loopsAt m (getD (m .cut) p 0) ≡ false
+    no-loop : NoCircle (linksAt (m .number) owner p) (endIn (m .link)) (m .nodes) (m .nodes) → loopsAt m (getD (m .cut) p 0) ≡ false
     no-loop f = go (loopsAt m (getD (m .cut) p 0)) refl
       where
         go : (t : Bool) → loopsAt m (getD (m .cut) p 0) ≡ t → t ≡ false
@@ -139,13 +139,13 @@ module _ (m : State) (label owner : List ℕ) (W : Whole m label owner) where
         let o = circle-is f (endOf m) (m .nodes) c v l .0 (sym (circle-same v) ∙ e) in
         any-true _ (m .nodes) v l (round-is f (endOf m) (m .nodes) c v l .1 (circle-never f (endOf m) v o))
 
-  pub loop-none : ((p : ℕ) → p < m .atoms → NoCircle (m .link) (m .number) owner (m .nodes) p (m .nodes)) → byAddress m loop ≡ NoLoop
+  pub loop-none : ((p : ℕ) → p < m .atoms → NoCircle (linksAt (m .number) owner p) (endIn (m .link)) (m .nodes) (m .nodes)) → byAddress m loop ≡ NoLoop
   unfolding byPlace asked loopFrom
   loop-none f = places loop ∙ ap (loopFrom m) (least-none (m .cut) (loopsAt m) (m .atoms) (λ p h. no-loop p h (f p h)))
 
   -- THE SEARCH: the first place with a node on a circle, and the first such node there
-  pub loop-is : (p v : ℕ) → p < m .atoms → v < m .nodes → ((q : ℕ) → q < p → NoCircle (m .link) (m .number) owner (m .nodes) q (m .nodes))
-      → NoCircle (m .link) (m .number) owner (m .nodes) p v → onCircle (linksAt (m .number) owner p) (endIn (m .link)) (m .nodes) v ≡ true
+  pub loop-is : (p v : ℕ) → p < m .atoms → v < m .nodes → ((q : ℕ) → q < p → NoCircle (linksAt (m .number) owner q) (endIn (m .link)) (m .nodes) (m .nodes))
+      → NoCircle (linksAt (m .number) owner p) (endIn (m .link)) (m .nodes) v → onCircle (linksAt (m .number) owner p) (endIn (m .link)) (m .nodes) v ≡ true
       → byAddress m loop ≡ Loop (getD (m .cut) p 0) v
   unfolding byPlace asked loopFrom someNode circleAt
   loop-is p v h l before f e =

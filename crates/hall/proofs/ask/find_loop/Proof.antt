@@ -1,12 +1,12 @@
 -- `ask::find_loop` meets its contract. The outer loop's invariant: no loop is found, and at no place below p a node lies on a circle.
--- The inner loop's: nor at place p a node below v or a node of `off`. Assumes nothing.
+-- The inner loop's: nor of the atom at place p a node below v or a node of `off`. Assumes nothing.
 use borrow.Author.Needs.{needs}
 use mathlib.Core.Path.{_≡_, refl, sym, _∙_}
 use Prim.Native.Nat.{ℕ, _-_, _≤_, _<_}
 use native.Mathlib.Omega.{arith}
 use borrow.Author.Count.{below-more}
 use Rattle.meaning.specs.declared.Answer.the-variants.{NoLoop}
-use Rattle.meaning.proofs.Owners.{endIn}
+use Rattle.meaning.proofs.Owners.{nextIn, endIn}
 use Rattle.meaning.proofs.Moving.{Off, nobody}
 use Rattle.meaning.proofs.ByPlace.{linksAt, NoCircle, small-atom, ends-of, loop-none, loop-is}
 use Rattle.hall.specs.Moves.{seen}
@@ -14,13 +14,13 @@ use Rattle.hall.proofs.ask.find_loop.Statement.{statement}
 use Rattle.hall.proofs.ask.find_loop.Tie as tie
 
 abbrev Inv-loop : tie.InvT-loop
-Inv-loop link rule cut number label owner atoms nodes answer₀ p atom off₀ v₀ answer off v = (v ≤ nodes) × (answer ≡ NoLoop) × NoCircle link number owner nodes p v × Off (linksAt number owner p) (endIn link) nodes off
+Inv-loop link rule cut number label owner atoms nodes answer₀ p atom off₀ v₀ answer off v = (v ≤ nodes) × (answer ≡ NoLoop) × NoCircle (nextIn owner atom) (endIn link) nodes v × Off (nextIn owner atom) (endIn link) nodes off
 
 abbrev μ-loop : tie.MeasureT-loop
 μ-loop link rule cut number label owner atoms nodes answer₀ p atom off₀ v₀ answer off v = nodes - v
 
 abbrev Inv-search : tie.InvT-search
-Inv-search link rule cut number label owner atoms nodes answer₀ p₀ answer p = (p ≤ atoms) × (answer ≡ NoLoop) × ((q : ℕ) → q < p → NoCircle link number owner nodes q nodes)
+Inv-search link rule cut number label owner atoms nodes answer₀ p₀ answer p = (p ≤ atoms) × (answer ≡ NoLoop) × ((q : ℕ) → q < p → NoCircle (linksAt number owner q) (endIn link) nodes nodes)
 
 abbrev μ-search : tie.MeasureT-search
 μ-search link rule cut number label owner atoms nodes answer₀ p₀ answer p = atoms - p
@@ -44,7 +44,8 @@ look-requires : tie.Need-look-requires Inv-loop μ-loop Inv-search μ-search
 look-requires c κs =
     let a = c .before .before .before in
     let W = a .before .before .before .before .pre in
-    rw (a .atom-at .ensures) (small-atom _ _ _ W _ (omega arith), omega (arith, W .sound .small), W .sound .small, ends-of _ _ _ W, c .before .loop .inv .3)
+    let q : a .atom-at .result .0 < 512 = rw (a .atom-at .ensures) (small-atom _ _ _ W _ (omega arith)) in
+    (q, omega (arith, W .sound .small), W .sound .small, ends-of _ _ _ W, c .before .loop .inv .3)
 
 enum-told : tie.Need-enum-told Inv-loop μ-loop Inv-search μ-search
 enum-told c = search needs
@@ -68,7 +69,7 @@ loop-again : tie.Need-loop-again Inv-loop μ-loop Inv-search μ-search
 unfolding seen
 loop-again c =
     let l = c .before .before .before .before .before in
-    let q = rw (c .before .more .given .1, l .before .before .atom-at .ensures) at (c .before .before .before .look .ensures) in
+    let q = rw (c .before .more .given .1) at (c .before .before .before .look .ensures) in
     (omega arith, l .loop .inv .1, below-more _ _ (l .loop .inv .2) (q .0), q .1)
 
 add-p : tie.Need-add-p Inv-loop μ-loop Inv-search μ-search
@@ -81,7 +82,8 @@ search-again : tie.Need-search-again Inv-loop μ-loop Inv-search μ-search
 search-again c =
     let l = c .before in
     let s = l .before .before .before .before in
-    (omega arith, l .loop .inv .1, below-more _ _ (s .search .inv .2) (λ u h. l .loop .inv .2 u (omega arith)))
+    let q = rw (l .before .before .atom-at .ensures) at (l .loop .inv .2) in
+    (omega arith, l .loop .inv .1, below-more _ _ (s .search .inv .2) (λ u h. q u (omega arith)))
 
 returns : tie.Need-returns Inv-loop μ-loop Inv-search μ-search
 returns c =
@@ -93,8 +95,9 @@ unfolding seen
 returns-2 c =
     let l = c .before .before .before .before .before in
     let s = l .before .before .before .before in
-    let q = rw (c .before .enum-told .given .1, l .before .before .atom-at .ensures) at (c .before .before .before .look .ensures) in
-    sym (loop-is _ _ _ (s .before .before .pre) _ _ (omega arith) (omega arith) (s .search .inv .2) (l .loop .inv .2) q)
+    let a = l .before .before .atom-at .ensures in
+    let q = rw (c .before .enum-told .given .1, a) at (c .before .before .before .look .ensures) in
+    sym (loop-is _ _ _ (s .before .before .pre) _ _ (omega arith) (omega arith) (s .search .inv .2) (rw a at (l .loop .inv .2)) q)
 
 pub find-loop-spec : {M : Type 1} → statement M
 find-loop-spec =

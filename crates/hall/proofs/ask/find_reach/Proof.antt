@@ -42,8 +42,8 @@ element-copy-out-t20 c = search needs
 returns : tie.Need-returns Inv-loop μ-loop
 returns c =
     let l = c .before .before .before .before .before .before in
-    let e = rw (c .before .before .before .before .atom-at .ensures) at (sym (c .before .before .comes-to .ensures) ∙ c .before .if1 .taken) in
-    sym (reach-is _ _ _ (l .before .before .pre .0) _ _ _ (omega arith) (l .loop .inv .1) e)
+    let q = rw (c .before .before .before .before .atom-at .ensures) at (c .before .before .comes-to .ensures) in
+    sym (reach-is _ _ _ (l .before .before .pre .0) _ _ _ (omega arith) (l .loop .inv .1) (sym q ∙ c .before .if1 .taken))
 
 add-p : tie.Need-add-p Inv-loop μ-loop
 add-p c = search needs
@@ -54,8 +54,8 @@ loop-less c = search needs
 loop-again : tie.Need-loop-again Inv-loop μ-loop
 loop-again c =
     let l = c .before .before .before .before .before in
-    let e = rw (c .before .before .before .atom-at .ensures) at (sym (c .before .comes-to .ensures) ∙ c .if1 .left) in
-    (omega arith, below-more _ _ (l .loop .inv .1) e)
+    let q = rw (c .before .before .before .atom-at .ensures) at (c .before .comes-to .ensures) in
+    (omega arith, below-more _ _ (l .loop .inv .1) (sym q ∙ c .if1 .left))
 
 returns-2 : tie.Need-returns-2 Inv-loop μ-loop
 returns-2 c =
