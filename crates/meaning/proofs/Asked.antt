@@ -2,29 +2,28 @@
 -- Assumes nothing.
 use mathlib.Core.Path.{_≡_, refl, sym, ap, _∙_}
 use mathlib.Core.Logic.{_↔_, Iff·symm}
-use mathlib.Core.Bool.{Bool, true, false, true≢false}
+use mathlib.Core.Bool.{true, true≢false}
 use mathlib.Core.Option.{Option, none, some}
-use Prim.Native.Nat.{ℕ, suc, _+_, _≤_, _<_}
+use Prim.Native.Nat.{ℕ, _+_, _<_}
 use native.Mathlib.Nat.{not-suc-le-zero}
 use native.Mathlib.Omega.{arith}
 use Rattle.meaning.specs.declared.Fate.{Fate}
 use Rattle.meaning.specs.declared.Fate.the-variants.{Out, Lost, Round}
-use Rattle.meaning.specs.declared.Answer.{Answer}
-use Rattle.meaning.specs.declared.Answer.the-variants.{Loop, NoLoop, Went, Yes, No, Tally}
-use Rattle.meaning.specs.declared.Record.the-variants.{Loop as loop, Fate as fate, Reach as reach, Tally as tally}
-use Rattle.meaning.specs.Search.{pick, anyBelow, lowestBelow, countBelow}
+use Rattle.meaning.specs.declared.Answer.the-variants.{Loop, NoLoop, Yes, No, Tally}
+use Rattle.meaning.specs.declared.Record.the-variants.{Loop as loop, Reach as reach, Tally as tally}
+use Rattle.meaning.specs.Search.{countBelow}
 use Rattle.meaning.specs.Hall.{top, State, endOf}
 use Rattle.meaning.specs.Winner.{nextAt}
-use Rattle.meaning.specs.Walk.{at, after, goesRound, onCircle, comesTo}
+use Rattle.meaning.specs.Walk.{at, after, goesRound, onCircle}
 use Rattle.meaning.specs.Questions.{fateOf, loopsAt, circleAt, someNode, loopFrom, reachesAt, reachFrom, isOut, isLost, isRound, asked, byAddress}
 use Rattle.meaning.specs.Run.{Came}
 use Rattle.meaning.proofs.Members.{any-true, any-some}
-use Rattle.meaning.proofs.Walks.{Never, Reaches, OnCircle, IsFate}
+use Rattle.meaning.proofs.Walks.{Never, OnCircle, IsFate}
 use Rattle.meaning.proofs.Kept.{sound}
 use Rattle.meaning.proofs.Means.{closed-in, round-is, circle-is, loop-circle, tally-all}
 use Rattle.meaning.proofs.Exchange.{reach-is}
 use Rattle.meaning.proofs.Fates.{fate-exact}
-use Rattle.meaning.proofs.Searches.{Lowest, lowest-by, lowest-once, Sought, missing, found, sought, lowest-is, lowest-none}
+use Rattle.meaning.proofs.Searches.{Lowest, lowest-by, lowest-once, Sought, missing, found, sought, lowest-is}
 
 -- ---- loop
 
