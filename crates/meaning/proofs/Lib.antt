@@ -1,4 +1,21 @@
--- The laws of document 01's definitions, by subject.
+-- The laws of document 01's definitions, by subject. Assumes nothing.
+-- First the laws that a reader looks for, in the document's order:
+pub mod Winners
+pub mod Covering
+pub mod Boundaries
+pub mod Numbering
+pub mod Updates
+pub mod Lists
+pub mod Undone
+pub mod Fates
+pub mod Asked
+pub mod Refusals
+pub mod Steps
+pub mod Stops
+pub mod Said
+pub mod Listing
+pub mod Sides
+-- and then what they stand on, and what the code's proofs cite
 pub mod Tables
 pub mod Insert
 pub mod Places
@@ -6,14 +23,13 @@ pub mod Parted
 pub mod Constant
 pub mod Words
 pub mod Checks
-pub mod Refusals
 pub mod Sound
 pub mod Kept
 pub mod Agree
-pub mod Listing
 pub mod Members
 pub mod Moving
 pub mod ByPlace
+pub mod Searches
 pub mod Pigeon
 pub mod Walks
 pub mod Circles
@@ -31,18 +47,4 @@ pub mod Numbered
 pub mod Labelled
 pub mod Reading
 pub mod Splitting
-pub mod Said
-pub mod Steps
-pub mod Stops
-pub mod Covering
-pub mod Winners
-pub mod Fates
-pub mod Searches
-pub mod Asked
-pub mod Undone
-pub mod Boundaries
-pub mod Numbering
 pub mod OneRule
-pub mod Updates
-pub mod Lists
-pub mod Sides
