@@ -9,8 +9,7 @@ use meaning::Rule;
 use meaning::Step;
 ghost use mathlib.Core.Path.{_≡_};
 ghost use mathlib.Core.List.{List};
-ghost use mathlib.Core.Option.{none};
-ghost use Prim.Native.Nat.{ℕ, _+_, _*_, _<_, _≤_};
+ghost use Prim.Native.Nat.{ℕ, _+_, _*_, _≤_};
 ghost use lib.ListN.{length};
 ghost use Rattle.meaning.specs.Hall.{endNumber};
 ghost use Rattle.meaning.specs.Records.{phaseOf};
@@ -36,6 +35,17 @@ fn phase_of(what: Record) -> u8
     }
 }
 
+// A step that answers and changes nothing.
+fn only(h: Hall, passed: usize, answer: Answer) -> Step
+    ensures { λ r. ⌜ r ≡ record { answer = answer; passed = passed; hall = h } ⌝ }
+{
+    Step {
+        answer,
+        passed,
+        hall: h,
+    }
+}
+
 // ---- the hall and its links
 
 // The hall record.
@@ -44,18 +54,10 @@ fn take_hall(h: Hall, passed: usize, nodes: u8) -> Step
         → left (r .answer) (r .passed) (stateOf (r .hall) link rule cut number) label owner list ≡ takes (stateOf h link rule cut number) list passed (aHall nodes)) ⌝ }
 {
     if nodes == 0 {
-        return Step {
-            answer: Answer::Refused(4),
-            passed,
-            hall: h,
-        };
+        return only(h, passed, Answer::Refused(4));
     }
     if 16 < nodes {
-        return Step {
-            answer: Answer::Refused(4),
-            passed,
-            hall: h,
-        };
+        return only(h, passed, Answer::Refused(4));
     }
     Step {
         answer: Answer::Ok,
@@ -116,11 +118,7 @@ fn take_link(h: Hall, link: &mut [u16; 64], passed: usize, source: u8, code: u8,
         → left (r .answer) (r .passed) (stateOf (r .hall) (now (link .exit)) rule cut places) label owner list ≡ takes (stateOf h (now (link .entry)) rule cut places) list passed (aLink source code number)) ⌝ }
 {
     match check_link(h, source, code, number) {
-        Check::Refused(k) => Step {
-            answer: Answer::Refused(k),
-            passed,
-            hall: h,
-        },
+        Check::Refused(k) => only(h, passed, Answer::Refused(k)),
         Check::Passed => {
             link[h.links as usize] = crate::link::pack(source, end_from(code, number));
             Step {
@@ -176,11 +174,7 @@ fn take_insert(
         ≡ takes (stateOf h (now (link .entry)) (now (rule .entry)) (now (cut .entry)) (now (number .entry))) (now (list .entry)) passed (insertion r (x .link) (x .prefix) (x .length) (x .priority)) ⌝ }
 {
     match crate::update::check_insert(h, link, rule, cut, r, x) {
-        Check::Refused(k) => Step {
-            answer: Answer::Refused(k),
-            passed,
-            hall: h,
-        },
+        Check::Refused(k) => only(h, passed, Answer::Refused(k)),
         Check::Passed => {
             let u = crate::update::insert(h, link, rule, cut, number, label, owner, list, r, x);
             crate::label::known(label);
@@ -213,11 +207,7 @@ fn take_remove(
         ≡ takes (stateOf h (now (link .entry)) (now (rule .entry)) (now (cut .entry)) (now (number .entry))) (now (list .entry)) passed (removal r) ⌝ }
 {
     match crate::update::check_remove(rule, r) {
-        Check::Refused(k) => Step {
-            answer: Answer::Refused(k),
-            passed,
-            hall: h,
-        },
+        Check::Refused(k) => only(h, passed, Answer::Refused(k)),
         Check::Passed => {
             let u = crate::update::remove(h, link, rule, cut, number, label, owner, list, r);
             crate::label::known(label);
@@ -249,11 +239,7 @@ fn ask_loop(
         ≡ takes (stateOf h (now (link .entry)) (now (rule .entry)) (now (cut .entry)) (now (number .entry))) list passed askLoop) ⌝ }
 {
     let answer = crate::ask::find_loop(h, link, rule, cut, number, label, owner);
-    Step {
-        answer,
-        passed,
-        hall: h,
-    }
+    only(h, passed, answer)
 }
 
 // The fate question.
@@ -274,18 +260,10 @@ fn ask_fate(
         ≡ takes (stateOf h (now (link .entry)) (now (rule .entry)) (now (cut .entry)) (now (number .entry))) list passed (askFate v a)) ⌝ }
 {
     if h.nodes <= v {
-        return Step {
-            answer: Answer::Refused(4),
-            passed,
-            hall: h,
-        };
+        return only(h, passed, Answer::Refused(4));
     }
     let f = crate::ask::fate_from(h, link, rule, cut, number, label, owner, v, a);
-    Step {
-        answer: Answer::Went(f),
-        passed,
-        hall: h,
-    }
+    only(h, passed, Answer::Went(f))
 }
 
 // The reach question.
@@ -306,25 +284,13 @@ fn ask_reach(
         ≡ takes (stateOf h (now (link .entry)) (now (rule .entry)) (now (cut .entry)) (now (number .entry))) list passed (askReach v w)) ⌝ }
 {
     if h.nodes <= v {
-        return Step {
-            answer: Answer::Refused(4),
-            passed,
-            hall: h,
-        };
+        return only(h, passed, Answer::Refused(4));
     }
     if h.nodes <= w {
-        return Step {
-            answer: Answer::Refused(4),
-            passed,
-            hall: h,
-        };
+        return only(h, passed, Answer::Refused(4));
     }
     let answer = crate::ask::find_reach(h, link, rule, cut, number, label, owner, v, w);
-    Step {
-        answer,
-        passed,
-        hall: h,
-    }
+    only(h, passed, answer)
 }
 
 // The tally question.
@@ -344,18 +310,10 @@ fn ask_tally(
         ≡ takes (stateOf h (now (link .entry)) (now (rule .entry)) (now (cut .entry)) (now (number .entry))) list passed (askTally v)) ⌝ }
 {
     if h.nodes <= v {
-        return Step {
-            answer: Answer::Refused(4),
-            passed,
-            hall: h,
-        };
+        return only(h, passed, Answer::Refused(4));
     }
     let answer = crate::ask::count_fates(h, link, rule, cut, number, label, owner, v);
-    Step {
-        answer,
-        passed,
-        hall: h,
-    }
+    only(h, passed, answer)
 }
 
 // ---- one record
@@ -416,30 +374,14 @@ pub fn take_record(
         ≡ leftOf (stateOf h (now (link .entry)) (now (rule .entry)) (now (cut .entry)) (now (number .entry))) (now (list .entry)) (now (bytes .entry)) ⌝ }
 {
     if list.len() < 2560 {
-        return Step {
-            answer: Answer::Refused(0),
-            passed: 0,
-            hall: h,
-        };
+        return only(h, 0, Answer::Refused(0));
     }
     match crate::record::read_record(bytes) {
-        Read::End => Step {
-            answer: Answer::End,
-            passed: 0,
-            hall: h,
-        },
-        Read::Refused(k) => Step {
-            answer: Answer::Refused(k),
-            passed: 0,
-            hall: h,
-        },
+        Read::End => only(h, 0, Answer::End),
+        Read::Refused(k) => only(h, 0, Answer::Refused(k)),
         Read::Got(what, passed) => {
             if h.phase != phase_of(what) {
-                return Step {
-                    answer: Answer::Refused(3),
-                    passed,
-                    hall: h,
-                };
+                return only(h, passed, Answer::Refused(3));
             }
             act(h, link, rule, cut, number, label, owner, list, passed, what)
         }

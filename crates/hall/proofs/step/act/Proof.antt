@@ -1,5 +1,5 @@
 -- `hall::step::act` meets its contract: in each arm what was told of the record turns the part's contract into the whole's. Assumes nothing.
-use mathlib.Core.Path.{_≡_, sym, ap, _∙_}
+use mathlib.Core.Path.{sym, ap, _∙_}
 use borrow.Author.Needs.{needs}
 use Rattle.meaning.specs.Records.{phaseOf}
 use Rattle.meaning.proofs.Labelled.{held-whole}

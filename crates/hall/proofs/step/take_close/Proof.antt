@@ -1,5 +1,5 @@
 -- `hall::step::take_close` meets its contract: a close is never refused, and sets the phase. Assumes nothing.
-use mathlib.Core.Path.{_≡_, refl}
+use mathlib.Core.Path.{refl}
 use native.Mathlib.Omega.{arith}
 use Rattle.meaning.specs.declared.Record.the-variants.{Close as aClose}
 use Rattle.meaning.specs.Records.{phaseOf}

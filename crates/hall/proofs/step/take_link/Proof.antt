@@ -1,14 +1,13 @@
 -- `hall::step::take_link` meets its contract: a link record is refused as its checks say, or its word is stored past the last link. Assumes nothing.
 use mathlib.Core.Path.{_≡_, refl, sym, ap, _∙_}
 use mathlib.Core.List.{[]}
-use mathlib.Core.Option.{none, some}
-use Prim.Native.Nat.{ℕ, _+_, _*_}
+use Prim.Native.Nat.{_+_, _*_}
 use native.Mathlib.Omega.{arith}
 use borrow.Author.Needs.{needs}
 use Rattle.meaning.specs.declared.Record.the-variants.{Link as aLink}
 use Rattle.meaning.specs.Hall.{linkWord}
 use Rattle.meaning.specs.Records.{phaseOf}
-use Rattle.meaning.specs.Step.{checked, refusal, withLink, leaves, changes, answers}
+use Rattle.meaning.specs.Step.{checked, withLink, leaves, changes, answers}
 use Rattle.meaning.specs.Box.{stateOf}
 use Rattle.meaning.proofs.Boxes.{LinkPasses, link-passes, turned-takes, opened-takes}
 use Rattle.hall.proofs.step.take_link.Statement.{statement}
@@ -25,6 +24,9 @@ check-link-requires c κs = search needs
 
 enum-known-k : tie.Need-enum-known-k
 enum-known-k c = search needs
+
+only-requires : tie.Need-only-requires
+only-requires c κs = search needs
 
 enum-told : tie.Need-enum-told
 enum-told c = search needs
@@ -50,8 +52,9 @@ add-t18 c = omega (arith, passes (c .before .before .before .before) .room)
 returns : tie.Need-returns
 unfolding checked
 returns c rule cut places label owner list h p =
-    let r = c .before .before .before in
-    turned-takes _ label owner list h _ _ _ (sym (r .check-link .ensures _ rule cut places) ∙ ap checked (c .before .k .given .1))
+    let k = c .before .before in
+    let r = k .before .before in
+    rw (c .only .ensures) (turned-takes _ label owner list h _ _ _ (sym (r .check-link .ensures _ rule cut places) ∙ ap checked (k .k .given .1)))
 
 returns-2 : tie.Need-returns-2
 unfolding checked phaseOf answers changes leaves withLink
@@ -69,6 +72,7 @@ take-link-spec =
     (tie.spec
     check-link-requires
     enum-known-k
+    only-requires
     enum-told
     end-from-requires
     pack-requires

@@ -24,6 +24,9 @@ check-remove-requires c κs = search needs
 enum-known-k : tie.Need-enum-known-k
 enum-known-k c = search needs
 
+only-requires : tie.Need-only-requires
+only-requires c κs = search needs
+
 enum-told : tie.Need-enum-told
 enum-told c = search needs
 
@@ -39,8 +42,10 @@ known-requires c κs = search needs
 returns : tie.Need-returns
 unfolding checked
 returns c =
-    let d = c .before .before .before in
-    turned-takes _ _ _ _ (d .before .before .before .pre .0) _ _ _ (sym (d .check-remove .ensures _ refl) ∙ ap checked (c .before .k .given .1))
+    let k = c .before .before in
+    let d = k .before .before in
+    rw (c .only .ensures)
+    (turned-takes _ _ _ _ (d .before .before .before .pre .0) _ _ _ (sym (d .check-remove .ensures _ refl) ∙ ap checked (k .k .given .1)))
 
 same-length : tie.Need-same-length
 same-length c = search needs
@@ -53,4 +58,4 @@ returns-2 c =
 
 pub take-remove-spec : {M : Type 1} → statement M
 take-remove-spec =
-    tie.close (tie.spec check-remove-requires enum-known-k enum-told remove-requires known-requires returns same-length returns-2)
+    tie.close (tie.spec check-remove-requires enum-known-k only-requires enum-told remove-requires known-requires returns same-length returns-2)
