@@ -43,3 +43,5 @@ pub mod Numbering
 pub mod Updates
 pub mod Lists
 pub mod Sides
+pub mod Demands
+pub mod Twins
