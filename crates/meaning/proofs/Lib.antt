@@ -45,3 +45,5 @@ pub mod Lists
 pub mod Sides
 pub mod Demands
 pub mod Twins
+pub mod Taking
+pub mod Spread

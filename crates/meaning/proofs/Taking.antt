@@ -1,0 +1,137 @@
+-- A step of two states side by side, and what an accepted insert or remove was. Assumes nothing.
+use mathlib.Core.Path.{_≡_, refl, sym, ap, _∙_}
+use mathlib.Core.Bool.{Bool, true, false, not}
+use mathlib.Core.Option.{Option, none, some}
+use mathlib.Core.List.{List}
+use Prim.Native.Nat.{ℕ, _+_, _≤_, _<_}
+use native.Mathlib.Omega.{arith}
+use lib.Dec.{ltb, eqb}
+use lib.ListN.{length, getD, set}
+use borrow.Author.Tests.{eqb-true, not-false}
+use Rattle.meaning.specs.declared.Answer.{Answer}
+use Rattle.meaning.specs.declared.Answer.the-variants.{End, Refused, Changed}
+use Rattle.meaning.specs.declared.Record.{Record}
+use Rattle.meaning.specs.declared.Record.the-variants.{Hall as hall, Link as link, Close as close, Insert as insert, Remove as remove, Loop as loop, Fate as fate, Reach as reach, Tally as tally}
+use Rattle.meaning.specs.Search.{pick}
+use Rattle.meaning.specs.Hall.{State}
+use Rattle.meaning.specs.Rule.{ruleWord}
+use Rattle.meaning.specs.Atoms.{withCut}
+use Rattle.meaning.specs.Questions.{byAddress}
+use Rattle.meaning.specs.Records.{isKind, bodyOf, recordOf, phaseOf}
+use Rattle.meaning.specs.Step.{Done, when, refusal, withRule, inserted, leaves, only, accepted, taken, stepBy, stepOf}
+use Rattle.meaning.proofs.Sound.{when-none}
+use Rattle.meaning.proofs.Steps.{turnedBy}
+use Rattle.meaning.proofs.Demands.{ruleOf, then, Accepts}
+
+-- ---- two states side by side
+
+-- where a record is turned away alike, what holds of both refusals and of both acceptances holds of both steps
+module _ (R : Done → Done → Type 0) (m n : State) (room : ℕ) (s : List ℕ) where
+  pub both-step : ((k : ℕ) (a : Answer) → R (only m k a) (only n k a)) → turnedBy m (recordOf s) ≡ turnedBy n (recordOf s)
+      → ((k : ℕ) → turnedBy n (recordOf s) ≡ none → R (accepted (byAddress m) m k (recordOf s)) (accepted (byAddress n) n k (recordOf s))) → R (stepOf m room s) (stepOf n room s)
+  unfolding stepOf stepBy taken
+  both-step f e g = rw e (go (ltb room 2560) (eqb (length s) 0) (not (isKind (getD s 0 0))) (ltb (length s) (1 + bodyOf (getD s 0 0))))
+    where
+      k : ℕ
+      k = 1 + bodyOf (getD s 0 0)
+
+      last : (o : Option ℕ) → turnedBy n (recordOf s) ≡ o → R (taken (byAddress m) m k (recordOf s) o) (taken (byAddress n) n k (recordOf s) o)
+      last (some j) q = f k (Refused j)
+      last none q = g k q
+
+      go : (a b c d : Bool)
+          → R (pick a (only m 0 (Refused 0)) (pick b (only m 0 End) (pick c (only m 0 (Refused 1)) (pick d (only m 0 (Refused 2)) (taken (byAddress m) m k (recordOf s) (turnedBy n (recordOf s)))))))
+          (pick a (only n 0 (Refused 0)) (pick b (only n 0 End) (pick c (only n 0 (Refused 1)) (pick d (only n 0 (Refused 2)) (taken (byAddress n) n k (recordOf s) (turnedBy n (recordOf s)))))))
+      go true b c d = f 0 (Refused 0)
+      go false true c d = f 0 End
+      go false false true d = f 0 (Refused 1)
+      go false false false true = f 0 (Refused 2)
+      go false false false false = last _ refl
+
+-- ---- an accepted insert or remove
+
+-- its record passed every check, and the step is that of the record
+pub record Took (m : State) (room : ℕ) (s : List ℕ) : Type 0 where
+  pub bytes : ℕ
+  pub phase : m .phase ≡ phaseOf (recordOf s)
+  pub passes : refusal m (recordOf s) ≡ none
+  pub is : stepOf m room s ≡ accepted (byAddress m) m bytes (recordOf s)
+
+module _ (m : State) (room : ℕ) (s : List ℕ) (i : ℕ) (A : Accepts m room s i) where
+  pub took-it : Took m room s
+  unfolding stepOf stepBy taken only
+  took-it = go (ltb room 2560) (eqb (length s) 0) (not (isKind (getD s 0 0))) (ltb (length s) (1 + bodyOf (getD s 0 0))) refl (A .ok)
+    where
+      k : ℕ
+      k = 1 + bodyOf (getD s 0 0)
+
+      last : (o : Option ℕ) → turnedBy m (recordOf s) ≡ o → stepBy (byAddress m) m room s ≡ taken (byAddress m) m k (recordOf s) o → taken (byAddress m) m k (recordOf s) o .answer ≡ Changed (A .count) → Took m room s
+      last (some j) q is e = let z : _≡_ {A = ℕ} 0 1 = cc in absurd (omega arith)
+      last none q is e = let y = when-none _ _ _ q in record { bytes = k; phase = eqb-true _ _ (not-false _ (y .0)); passes = y .1; is = is }
+
+      go : (a b c d : Bool)
+          → stepBy (byAddress m) m room s ≡ pick a (only m 0 (Refused 0)) (pick b (only m 0 End) (pick c (only m 0 (Refused 1)) (pick d (only m 0 (Refused 2)) (taken (byAddress m) m k (recordOf s) (turnedBy m (recordOf s))))))
+          → pick a (only m 0 (Refused 0)) (pick b (only m 0 End) (pick c (only m 0 (Refused 1)) (pick d (only m 0 (Refused 2)) (taken (byAddress m) m k (recordOf s) (turnedBy m (recordOf s)))))) .answer ≡ Changed (A .count)
+          → Took m room s
+      go true b c d is e = let z : _≡_ {A = ℕ} 0 1 = cc in absurd (omega arith)
+      go false true c d is e = let z : _≡_ {A = ℕ} 0 1 = cc in absurd (omega arith)
+      go false false true d is e = let z : _≡_ {A = ℕ} 0 1 = cc in absurd (omega arith)
+      go false false false true is e = let z : _≡_ {A = ℕ} 0 1 = cc in absurd (omega arith)
+      go false false false false is e = last _ refl is e
+
+  pub left-is : then m room s ≡ leaves m (recordOf s)
+  unfolding accepted
+  left-is = ap (λ (d : Done). d .left) (took-it .is)
+
+-- ---- what such a record stores
+
+-- the word that rule i has then
+unfoldable pub storedBy : Record → ℕ
+storedBy (hall n) = 0
+storedBy (link s c e) = 0
+storedBy close = 0
+storedBy (insert r l p n t) = ruleWord l p n t
+storedBy (remove r) = 0
+storedBy loop = 0
+storedBy (fate v a) = 0
+storedBy (reach v w) = 0
+storedBy (tally v) = 0
+
+-- it stores that word and keeps the hall
+pub record Stores (m n : State) (i w : ℕ) : Type 0 where
+  pub rule : n .rule ≡ set (m .rule) i w
+  pub phase : n .phase ≡ m .phase
+  pub nodes : n .nodes ≡ m .nodes
+  pub links : n .links ≡ m .links
+  pub link : n .link ≡ m .link
+
+stores-one : (m : State) (r : Record) (i : ℕ) → ruleOf r ≡ some i → Stores m (leaves m r) i (storedBy r)
+unfolding ruleOf storedBy leaves inserted withRule withCut
+stores-one m (hall n) i e = let z : _≡_ {A = ℕ} 0 1 = cc in absurd (omega arith)
+stores-one m (link s c d) i e = let z : _≡_ {A = ℕ} 0 1 = cc in absurd (omega arith)
+stores-one m close i e = let z : _≡_ {A = ℕ} 0 1 = cc in absurd (omega arith)
+stores-one m (insert r l p n t) i e = let q : r ≡ i = cc in record { rule = ap (λ (j : ℕ). set (m .rule) j (ruleWord l p n t)) q; phase = refl; nodes = refl; links = refl; link = refl }
+stores-one m (remove r) i e = let q : r ≡ i = cc in record { rule = ap (λ (j : ℕ). set (m .rule) j 0) q; phase = refl; nodes = refl; links = refl; link = refl }
+stores-one m loop i e = let z : _≡_ {A = ℕ} 0 1 = cc in absurd (omega arith)
+stores-one m (fate v a) i e = let z : _≡_ {A = ℕ} 0 1 = cc in absurd (omega arith)
+stores-one m (reach v w) i e = let z : _≡_ {A = ℕ} 0 1 = cc in absurd (omega arith)
+stores-one m (tally v) i e = let z : _≡_ {A = ℕ} 0 1 = cc in absurd (omega arith)
+
+-- THE LAW
+pub stores : (m : State) (room : ℕ) (s : List ℕ) (i : ℕ) → Accepts m room s i → Stores m (then m room s) i (storedBy (recordOf s))
+stores m room s i A = rw (left-is m room s i A) (stores-one m (recordOf s) i (A .names))
+
+update-phase : (r : Record) (i : ℕ) → ruleOf r ≡ some i → phaseOf r ≡ 2
+unfolding ruleOf phaseOf
+update-phase (hall n) i e = let z : _≡_ {A = ℕ} 0 1 = cc in absurd (omega arith)
+update-phase (link s c d) i e = let z : _≡_ {A = ℕ} 0 1 = cc in absurd (omega arith)
+update-phase close i e = let z : _≡_ {A = ℕ} 0 1 = cc in absurd (omega arith)
+update-phase (insert r l p n t) i e = refl
+update-phase (remove r) i e = refl
+update-phase loop i e = refl
+update-phase (fate v a) i e = refl
+update-phase (reach v w) i e = refl
+update-phase (tally v) i e = refl
+
+pub closed-hall : (m : State) (room : ℕ) (s : List ℕ) (i : ℕ) → Accepts m room s i → m .phase ≡ 2
+closed-hall m room s i A = took-it m room s i A .phase ∙ update-phase (recordOf s) i (A .names)
