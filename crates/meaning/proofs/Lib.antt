@@ -47,3 +47,4 @@ pub mod Demands
 pub mod Twins
 pub mod Taking
 pub mod Spread
+pub mod Renumbered
