@@ -48,3 +48,4 @@ pub mod Twins
 pub mod Taking
 pub mod Spread
 pub mod Renumbered
+pub mod Swapped
