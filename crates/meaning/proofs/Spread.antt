@@ -31,7 +31,7 @@ use Rattle.meaning.proofs.Exchange.{winner-same, next-same}
 use Rattle.meaning.proofs.Lists.{listed-is}
 use Rattle.meaning.proofs.Demands.{ruleOf, then, Accepts, Twins, Lists, here, later, Changes}
 use Rattle.meaning.proofs.Twins.{twin-rules, twin-links}
-use Rattle.meaning.proofs.Taking.{took-it, left-is, closed-hall, storedBy, stores}
+use Rattle.meaning.proofs.Taking.{by-update, took-it, left-is, closed-hall, storedBy, stores}
 
 -- ---- a list of entries over addresses
 
@@ -161,23 +161,17 @@ module _ (m : State) (c : Came m) where
       after : Sound (withRule m r 0)
       after = unfold leaves phaseOf Fits in keeps m (remove r) (sound m c) tt ph ok
 
-  spreads : (r : Record) (i : ℕ) → ruleOf r ≡ some i → Fits r → m .phase ≡ 2 → refusal m r ≡ none → Spreads r
-  unfolding ruleOf Fits
-  spreads (hall n) i e f ph ok = let z : _≡_ {A = ℕ} 0 1 = cc in absurd (omega arith)
-  spreads (link s d k) i e f ph ok = let z : _≡_ {A = ℕ} 0 1 = cc in absurd (omega arith)
-  spreads close i e f ph ok = let z : _≡_ {A = ℕ} 0 1 = cc in absurd (omega arith)
-  spreads (insert r l p n t) i e f ph ok = insert-spreads r l p n t f ph ok
-  spreads (remove r) i e f ph ok = remove-spreads r ph ok
-  spreads loop i e f ph ok = let z : _≡_ {A = ℕ} 0 1 = cc in absurd (omega arith)
-  spreads (fate v a) i e f ph ok = let z : _≡_ {A = ℕ} 0 1 = cc in absurd (omega arith)
-  spreads (reach v w) i e f ph ok = let z : _≡_ {A = ℕ} 0 1 = cc in absurd (omega arith)
-  spreads (tally v) i e f ph ok = let z : _≡_ {A = ℕ} 0 1 = cc in absurd (omega arith)
+  spreads : (i : ℕ) (r : Record) → ruleOf r ≡ some i → Fits r → m .phase ≡ 2 → refusal m r ≡ none → Spreads r
+  spreads i =
+      by-update (λ r. Fits r → m .phase ≡ 2 → refusal m r ≡ none → Spreads r) i
+      (λ l p n t F. insert-spreads i l p n t (unfold Fits in F))
+      (λ F. remove-spreads i)
 
   -- THE LAW: the list has an entry over an address exactly when the winner at the rule's node changed there, with the links before and after
   pub changes-listed : (room : ℕ) (s : List ℕ) (i : ℕ) → Accepts m room s i
       → (a x y : ℕ) → Lists a x y (stepOf m room s .written) ↔ Changes m (then m room s) (nodeOf m (recordOf s)) a x y
   unfolding accepted
-  changes-listed room s i A = rw (left-is m room s i A, took-it m room s i A .is) (spreads (recordOf s) i (A .names) (fits s) (closed-hall m room s i A) (took-it m room s i A .passes))
+  changes-listed room s i A = rw (left-is m room s i A, took-it m room s i A .is) (spreads i (recordOf s) (A .names) (fits s) (closed-hall m room s i A) (took-it m room s i A .passes))
 
 -- ---- two histories
 

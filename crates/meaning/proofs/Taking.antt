@@ -1,6 +1,6 @@
--- A step of two states side by side, and what an accepted insert or remove was. Assumes nothing.
+-- Records by kind, a step of two states side by side, and what an accepted insert or remove was. Assumes nothing.
 use mathlib.Core.Path.{_≡_, refl, sym, ap, _∙_}
-use mathlib.Core.Bool.{Bool, true, false, not}
+use mathlib.Core.Bool.{Bool, true, false, not, true≢false}
 use mathlib.Core.Option.{Option, none, some}
 use mathlib.Core.List.{List}
 use Prim.Native.Nat.{ℕ, _+_, _≤_, _<_}
@@ -20,8 +20,36 @@ use Rattle.meaning.specs.Questions.{byAddress}
 use Rattle.meaning.specs.Records.{isKind, bodyOf, recordOf, phaseOf}
 use Rattle.meaning.specs.Step.{Done, when, refusal, withRule, inserted, leaves, only, accepted, taken, stepBy, stepOf}
 use Rattle.meaning.proofs.Sound.{when-none}
-use Rattle.meaning.proofs.Steps.{turnedBy}
+use Rattle.meaning.proofs.Steps.{isQuestion, turnedBy}
 use Rattle.meaning.proofs.Demands.{ruleOf, then, Accepts}
+
+-- ---- kinds of records
+
+-- what holds of the four questions holds of every question
+pub by-question : (P : Record → Type 0) → P loop → ((v a : ℕ) → P (fate v a)) → ((v w : ℕ) → P (reach v w)) → ((v : ℕ) → P (tally v)) → (r : Record) → isQuestion r ≡ true → P r
+unfolding isQuestion
+by-question P l f g h (hall n) e = absurd (true≢false (sym e))
+by-question P l f g h (link s c d) e = absurd (true≢false (sym e))
+by-question P l f g h close e = absurd (true≢false (sym e))
+by-question P l f g h (insert r k p n t) e = absurd (true≢false (sym e))
+by-question P l f g h (remove r) e = absurd (true≢false (sym e))
+by-question P l f g h loop e = l
+by-question P l f g h (fate v a) e = f v a
+by-question P l f g h (reach v w) e = g v w
+by-question P l f g h (tally v) e = h v
+
+-- what holds of the inserts and the remove of rule i holds of every record that names rule i
+pub by-update : (P : Record → Type 0) (i : ℕ) → ((l p n t : ℕ) → P (insert i l p n t)) → P (remove i) → (r : Record) → ruleOf r ≡ some i → P r
+unfolding ruleOf
+by-update P i f g (hall n) e = let z : _≡_ {A = ℕ} 0 1 = cc in absurd (omega arith)
+by-update P i f g (link s c d) e = let z : _≡_ {A = ℕ} 0 1 = cc in absurd (omega arith)
+by-update P i f g close e = let z : _≡_ {A = ℕ} 0 1 = cc in absurd (omega arith)
+by-update P i f g (insert r l p n t) e = let q : r ≡ i = cc in rw q (f l p n t)
+by-update P i f g (remove r) e = let q : r ≡ i = cc in rw q g
+by-update P i f g loop e = let z : _≡_ {A = ℕ} 0 1 = cc in absurd (omega arith)
+by-update P i f g (fate v a) e = let z : _≡_ {A = ℕ} 0 1 = cc in absurd (omega arith)
+by-update P i f g (reach v w) e = let z : _≡_ {A = ℕ} 0 1 = cc in absurd (omega arith)
+by-update P i f g (tally v) e = let z : _≡_ {A = ℕ} 0 1 = cc in absurd (omega arith)
 
 -- ---- two states side by side
 
@@ -105,33 +133,15 @@ pub record Stores (m n : State) (i w : ℕ) : Type 0 where
   pub links : n .links ≡ m .links
   pub link : n .link ≡ m .link
 
-stores-one : (m : State) (r : Record) (i : ℕ) → ruleOf r ≡ some i → Stores m (leaves m r) i (storedBy r)
-unfolding ruleOf storedBy leaves inserted withRule withCut
-stores-one m (hall n) i e = let z : _≡_ {A = ℕ} 0 1 = cc in absurd (omega arith)
-stores-one m (link s c d) i e = let z : _≡_ {A = ℕ} 0 1 = cc in absurd (omega arith)
-stores-one m close i e = let z : _≡_ {A = ℕ} 0 1 = cc in absurd (omega arith)
-stores-one m (insert r l p n t) i e = let q : r ≡ i = cc in record { rule = ap (λ (j : ℕ). set (m .rule) j (ruleWord l p n t)) q; phase = refl; nodes = refl; links = refl; link = refl }
-stores-one m (remove r) i e = let q : r ≡ i = cc in record { rule = ap (λ (j : ℕ). set (m .rule) j 0) q; phase = refl; nodes = refl; links = refl; link = refl }
-stores-one m loop i e = let z : _≡_ {A = ℕ} 0 1 = cc in absurd (omega arith)
-stores-one m (fate v a) i e = let z : _≡_ {A = ℕ} 0 1 = cc in absurd (omega arith)
-stores-one m (reach v w) i e = let z : _≡_ {A = ℕ} 0 1 = cc in absurd (omega arith)
-stores-one m (tally v) i e = let z : _≡_ {A = ℕ} 0 1 = cc in absurd (omega arith)
+stores-one : (m : State) (i : ℕ) (r : Record) → ruleOf r ≡ some i → Stores m (leaves m r) i (storedBy r)
+unfolding storedBy leaves inserted withRule withCut
+stores-one m i =
+    by-update (λ r. Stores m (leaves m r) i (storedBy r)) i (λ l p n t. record { rule = refl; phase = refl; nodes = refl; links = refl; link = refl })
+    (record { rule = refl; phase = refl; nodes = refl; links = refl; link = refl })
 
 -- THE LAW
 pub stores : (m : State) (room : ℕ) (s : List ℕ) (i : ℕ) → Accepts m room s i → Stores m (then m room s) i (storedBy (recordOf s))
-stores m room s i A = rw (left-is m room s i A) (stores-one m (recordOf s) i (A .names))
-
-update-phase : (r : Record) (i : ℕ) → ruleOf r ≡ some i → phaseOf r ≡ 2
-unfolding ruleOf phaseOf
-update-phase (hall n) i e = let z : _≡_ {A = ℕ} 0 1 = cc in absurd (omega arith)
-update-phase (link s c d) i e = let z : _≡_ {A = ℕ} 0 1 = cc in absurd (omega arith)
-update-phase close i e = let z : _≡_ {A = ℕ} 0 1 = cc in absurd (omega arith)
-update-phase (insert r l p n t) i e = refl
-update-phase (remove r) i e = refl
-update-phase loop i e = refl
-update-phase (fate v a) i e = refl
-update-phase (reach v w) i e = refl
-update-phase (tally v) i e = refl
+stores m room s i A = rw (left-is m room s i A) (stores-one m i (recordOf s) (A .names))
 
 pub closed-hall : (m : State) (room : ℕ) (s : List ℕ) (i : ℕ) → Accepts m room s i → m .phase ≡ 2
-closed-hall m room s i A = took-it m room s i A .phase ∙ update-phase (recordOf s) i (A .names)
+closed-hall m room s i A = took-it m room s i A .phase ∙ by-update (λ r. phaseOf r ≡ 2) i (λ l p n t. unfold phaseOf in refl) (unfold phaseOf in refl) (recordOf s) (A .names)

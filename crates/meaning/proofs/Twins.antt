@@ -21,14 +21,16 @@ use Rattle.meaning.specs.Rule.{ruleWord, live, linkOf, lengthOf, rank, l
 use Rattle.meaning.specs.Winner.{ruleAt, eligible, winner, linkFor, nextAt}
 use Rattle.meaning.specs.Atoms.{withCut}
 use Rattle.meaning.specs.Questions.{fateOf, loopsAt, circleAt, someNode, loopFrom, reachesAt, asked, byAddress}
-use Rattle.meaning.specs.Records.{phaseOf}
-use Rattle.meaning.specs.Step.{refusal, withRule, inserted, withNodes, withLink, closed, leaves, stepOf}
+use Rattle.meaning.specs.Records.{recordOf, phaseOf}
+use Rattle.meaning.specs.Step.{Done, refusal, withRule, inserted, withNodes, withLink, closed, leaves, only, answers, accepted, stepOf}
 use Rattle.meaning.specs.Run.{Came, start, more}
 use Rattle.meaning.proofs.Places.{le-or-lt}
 use Rattle.meaning.proofs.Words.{Sized, Fits, link-of, rank-of, lower-of, length-of}
 use Rattle.meaning.proofs.Sound.{Sound, step-keeps, fresh-sound}
 use Rattle.meaning.proofs.Kept.{Clear, clear, sound}
+use Rattle.meaning.proofs.Steps.{isQuestion, turnedBy}
 use Rattle.meaning.proofs.Demands.{SameRule, Twins}
+use Rattle.meaning.proofs.Taking.{by-question, both-step}
 
 -- ---- a live rule's word is the word of its parts
 
@@ -159,3 +161,23 @@ module _ (m n : State) (rule : m .rule ≡ n .rule) (same : m .link ≡ n .link)
     where
       seen : (o : State) → fateOf o v a ≡ fateOf (plain o) v a
       seen o = unfold fateOf nextAt linkFor winner eligible ruleAt sourceOf endOf plain in refl
+
+-- ---- a question's step
+
+module _ (m n : State) (T : Twins m n) where
+  same-turned : (r : Record) → isQuestion r ≡ true → turnedBy m r ≡ turnedBy n r
+  unfolding refusal
+  same-turned =
+      by-question (λ r. turnedBy m r ≡ turnedBy n r) (rw (T .closed .0, T .closed .1)) (λ v a. rw (T .closed .0, T .closed .1, T .nodes))
+      (λ v w. rw (T .closed .0, T .closed .1, T .nodes)) (λ v. rw (T .closed .0, T .closed .1, T .nodes))
+
+  same-reply : (k : ℕ) (r : Record) → isQuestion r ≡ true → accepted (byAddress m) m k r .answer ≡ accepted (byAddress n) n k r .answer
+  unfolding accepted answers
+  same-reply k =
+      let f = answers-same m n (twin-rules m n T) (twin-links m n T) (T .nodes) in
+      by-question (λ r. answers (byAddress m) m r ≡ answers (byAddress n) n r) (f loop) (λ v a. f (fate v a)) (λ v w. f (reach v w)) (λ v. f (tally v))
+
+  -- THE LAW: every question has the same answer and witness
+  pub same-asked : (room : ℕ) (s : List ℕ) → isQuestion (recordOf s) ≡ true → stepOf m room s .answer ≡ stepOf n room s .answer
+  same-asked room s e =
+      both-step (λ d e. d .answer ≡ e .answer) m n room s (λ k a. unfold only in refl) (same-turned (recordOf s) e) (λ k q. same-reply k (recordOf s) e)
