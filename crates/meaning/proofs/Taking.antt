@@ -1,15 +1,17 @@
 -- Records by kind, a step of two states side by side, and what an accepted insert or remove was. Assumes nothing.
 use mathlib.Core.Path.{_≡_, refl, sym, ap, _∙_}
+use mathlib.Core.Logic.{_↔_}
 use mathlib.Core.Bool.{Bool, true, false, not, true≢false}
 use mathlib.Core.Option.{Option, none, some}
 use mathlib.Core.List.{List}
-use Prim.Native.Nat.{ℕ, _+_, _≤_, _<_}
+use Prim.Native.Nat.{ℕ, _+_, _*_, _≤_, _<_}
 use native.Mathlib.Omega.{arith}
 use lib.Dec.{ltb, eqb}
 use lib.ListN.{length, getD, set}
-use borrow.Author.Tests.{eqb-true, not-false}
+use borrow.Author.Tests.{eqb-true, eq-eqb, le-ltb, not-false}
 use Rattle.meaning.specs.declared.Answer.{Answer}
 use Rattle.meaning.specs.declared.Answer.the-variants.{End, Refused, Changed}
+use Rattle.meaning.specs.declared.Read.the-variants.{End as Nothing, Refused as Unread, Got}
 use Rattle.meaning.specs.declared.Record.{Record}
 use Rattle.meaning.specs.declared.Record.the-variants.{Hall as hall, Link as link, Close as close, Insert as insert, Remove as remove, Loop as loop, Fate as fate, Reach as reach, Tally as tally}
 use Rattle.meaning.specs.Search.{pick}
@@ -17,11 +19,12 @@ use Rattle.meaning.specs.Hall.{State}
 use Rattle.meaning.specs.Rule.{ruleWord}
 use Rattle.meaning.specs.Atoms.{withCut}
 use Rattle.meaning.specs.Questions.{byAddress}
-use Rattle.meaning.specs.Records.{isKind, bodyOf, recordOf, phaseOf}
+use Rattle.meaning.specs.Records.{isKind, bodyOf, recordOf, readOf, phaseOf}
 use Rattle.meaning.specs.Step.{Done, when, refusal, withRule, inserted, leaves, only, accepted, taken, stepBy, stepOf}
 use Rattle.meaning.proofs.Sound.{when-none}
-use Rattle.meaning.proofs.Steps.{isQuestion, turnedBy}
-use Rattle.meaning.proofs.Demands.{ruleOf, then, Accepts}
+use Rattle.meaning.proofs.Steps.{Stepped, short, ended, unread, turned, took, stepped, isQuestion, turnedBy}
+use Rattle.meaning.proofs.Stops.{at-end, stays}
+use Rattle.meaning.proofs.Demands.{refusedBy, ruleOf, then, Accepts}
 
 -- ---- kinds of records
 
@@ -76,36 +79,69 @@ module _ (R : Done → Done → Type 0) (m n : State) (room : ℕ) (s : List ℕ
       go false false false true = f 0 (Refused 2)
       go false false false false = last _ refl
 
--- ---- an accepted insert or remove
+-- ---- "end"
 
--- its record passed every check, and the step is that of the record
+reads-nothing : (s : List ℕ) → readOf s ≡ Nothing → length s ≡ 0
+unfolding readOf
+reads-nothing s e = go (eqb (length s) 0) refl (not (isKind (getD s 0 0))) (ltb (length s) (1 + bodyOf (getD s 0 0))) e
+  where
+    go : (a : Bool) → eqb (length s) 0 ≡ a → (b c : Bool) → pick a Nothing (pick b (Unread 1) (pick c (Unread 2) (Got (recordOf s) (1 + bodyOf (getD s 0 0))))) ≡ Nothing → length s ≡ 0
+    go true q b c e = eqb-true (length s) 0 q
+    go false q true c e = let z : _≡_ {A = ℕ} 0 1 = cc in absurd (omega arith)
+    go false q false true e = let z : _≡_ {A = ℕ} 0 1 = cc in absurd (omega arith)
+    go false q false false e = let z : _≡_ {A = ℕ} 0 1 = cc in absurd (omega arith)
+
+-- THE LAW: the answer is "end" exactly when the list is long enough and no byte is left
+pub end-is : (m : State) (room : ℕ) (s : List ℕ) → (stepOf m room s .answer ≡ End) ↔ ((5 * 512 ≤ room) × (length s ≡ 0))
+unfolding stepOf stepBy only accepted
+end-is m room s = (λ e. go _ (stepped _ m room s) refl e, λ h. rw (le-ltb room 2560 (h .0), eq-eqb (length s) 0 (h .1)))
+  where
+    go : (d : Done) → Stepped (byAddress m) m room s d → stepBy (byAddress m) m room s ≡ d → d .answer ≡ End → (5 * 512 ≤ room) × (length s ≡ 0)
+    go d (short h) q e = let z : _≡_ {A = ℕ} 0 1 = cc in absurd (omega arith)
+    go d (ended h r) q e = (h, reads-nothing s r)
+    go d (unread k h r o) q e = let z : _≡_ {A = ℕ} 0 1 = cc in absurd (omega arith)
+    go d (turned r n k h g pos f b) q e = let z : _≡_ {A = ℕ} 0 1 = cc in absurd (omega arith)
+    go d (took r n h g pos f) q e = let none : n ≡ 0 = sym (ap (λ (d : Done). d .passed) q) ∙ stays m room s .1 (rw (q, e) at-end) in absurd (omega arith)
+
+-- ---- an accepted record
+
+-- it passed every check, and the step is that of the record
 pub record Took (m : State) (room : ℕ) (s : List ℕ) : Type 0 where
   pub bytes : ℕ
   pub phase : m .phase ≡ phaseOf (recordOf s)
   pub passes : refusal m (recordOf s) ≡ none
   pub is : stepOf m room s ≡ accepted (byAddress m) m bytes (recordOf s)
 
-module _ (m : State) (room : ℕ) (s : List ℕ) (i : ℕ) (A : Accepts m room s i) where
-  pub took-it : Took m room s
-  unfolding stepOf stepBy taken only
-  took-it = go (ltb room 2560) (eqb (length s) 0) (not (isKind (getD s 0 0))) (ltb (length s) (1 + bodyOf (getD s 0 0))) refl (A .ok)
+module _ (m : State) (room : ℕ) (s : List ℕ) where
+  -- what is neither refused nor "end" is accepted
+  pub accepts : refusedBy (stepOf m room s .answer) ≡ none → (stepOf m room s .answer ≡ End → ⊥) → Took m room s
+  unfolding stepOf stepBy taken only refusedBy
+  accepts = go (ltb room 2560) (eqb (length s) 0) (not (isKind (getD s 0 0))) (ltb (length s) (1 + bodyOf (getD s 0 0))) refl
     where
       k : ℕ
       k = 1 + bodyOf (getD s 0 0)
 
-      last : (o : Option ℕ) → turnedBy m (recordOf s) ≡ o → stepBy (byAddress m) m room s ≡ taken (byAddress m) m k (recordOf s) o → taken (byAddress m) m k (recordOf s) o .answer ≡ Changed (A .count) → Took m room s
+      last : (o : Option ℕ) → turnedBy m (recordOf s) ≡ o → stepBy (byAddress m) m room s ≡ taken (byAddress m) m k (recordOf s) o
+          → refusedBy (taken (byAddress m) m k (recordOf s) o .answer) ≡ none → Took m room s
       last (some j) q is e = let z : _≡_ {A = ℕ} 0 1 = cc in absurd (omega arith)
       last none q is e = let y = when-none _ _ _ q in record { bytes = k; phase = eqb-true _ _ (not-false _ (y .0)); passes = y .1; is = is }
 
       go : (a b c d : Bool)
           → stepBy (byAddress m) m room s ≡ pick a (only m 0 (Refused 0)) (pick b (only m 0 End) (pick c (only m 0 (Refused 1)) (pick d (only m 0 (Refused 2)) (taken (byAddress m) m k (recordOf s) (turnedBy m (recordOf s))))))
-          → pick a (only m 0 (Refused 0)) (pick b (only m 0 End) (pick c (only m 0 (Refused 1)) (pick d (only m 0 (Refused 2)) (taken (byAddress m) m k (recordOf s) (turnedBy m (recordOf s)))))) .answer ≡ Changed (A .count)
+          → refusedBy (pick a (only m 0 (Refused 0)) (pick b (only m 0 End) (pick c (only m 0 (Refused 1)) (pick d (only m 0 (Refused 2)) (taken (byAddress m) m k (recordOf s) (turnedBy m (recordOf s)))))) .answer) ≡ none
+          → (pick a (only m 0 (Refused 0)) (pick b (only m 0 End) (pick c (only m 0 (Refused 1)) (pick d (only m 0 (Refused 2)) (taken (byAddress m) m k (recordOf s) (turnedBy m (recordOf s)))))) .answer ≡ End → ⊥)
           → Took m room s
-      go true b c d is e = let z : _≡_ {A = ℕ} 0 1 = cc in absurd (omega arith)
-      go false true c d is e = let z : _≡_ {A = ℕ} 0 1 = cc in absurd (omega arith)
-      go false false true d is e = let z : _≡_ {A = ℕ} 0 1 = cc in absurd (omega arith)
-      go false false false true is e = let z : _≡_ {A = ℕ} 0 1 = cc in absurd (omega arith)
-      go false false false false is e = last _ refl is e
+      go true b c d is e f = let z : _≡_ {A = ℕ} 0 1 = cc in absurd (omega arith)
+      go false true c d is e f = absurd (f refl)
+      go false false true d is e f = let z : _≡_ {A = ℕ} 0 1 = cc in absurd (omega arith)
+      go false false false true is e f = let z : _≡_ {A = ℕ} 0 1 = cc in absurd (omega arith)
+      go false false false false is e f = last _ refl is e
+
+-- ---- an accepted insert or remove
+
+module _ (m : State) (room : ℕ) (s : List ℕ) (i : ℕ) (A : Accepts m room s i) where
+  pub took-it : Took m room s
+  took-it = accepts m room s (ap refusedBy (A .ok) ∙ (unfold refusedBy in refl)) (λ e. let z : _≡_ {A = ℕ} 0 1 = cc (A .ok) in omega arith)
 
   pub left-is : then m room s ≡ leaves m (recordOf s)
   unfolding accepted
