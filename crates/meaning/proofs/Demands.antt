@@ -59,7 +59,7 @@ pub record Ties (m : State) (l p n t : ℕ) : Type 0 where
 
 -- how many inner boundaries would exist: those there are and the two ends of the prefix, without 0 and the end of the range
 unfoldable pub innerWith : State → ℕ → ℕ → ℕ
-innerWith m p n = countBelow top (λ b. ltb 0 b && ((isCut (m .cut) (m .atoms) b || eqb b p) || eqb b (p + 2 ^ (32 - n))))
+innerWith m p n = countBelow top (λ b. ltb 0 b && (isCut (m .cut) (m .atoms) b || eqb b p || eqb b (p + 2 ^ (32 - n))))
 
 -- THE TABLE: "hall 4; link 6, 4 (source), 7, 4 (end); insert 8, 9, 5, 11, 12, 13; remove 8, 10; questions 4, A before B"
 unfoldable pub checksOf : State → Record → List Check

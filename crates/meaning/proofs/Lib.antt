@@ -49,3 +49,4 @@ pub mod Taking
 pub mod Spread
 pub mod Renumbered
 pub mod Swapped
+pub mod Inner
