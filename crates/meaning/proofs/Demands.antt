@@ -121,6 +121,7 @@ pub record Demand1 : Type 0 where
   pub stops : (list s : List ℕ) → Stops (runOf list s .stopped)
   -- "a refused record is refused for the reason document 01 gives and no other"
   pub reason : (m : State) → Came m → (room : ℕ) (s : List ℕ) → Outcome (checks m room s) (refusedBy (stepOf m room s .answer))
+  pub no-other : (m : State) (room : ℕ) (s : List ℕ) (o p : Option ℕ) → Outcome (checks m room s) o → Outcome (checks m room s) p → o ≡ p
   pub end : (m : State) (room : ℕ) (s : List ℕ) → (stepOf m room s .answer ≡ End) ↔ ((5 * 512 ≤ room) × (length s ≡ 0))
   -- "with rules, atoms and labels as they stood"
   pub stands : (m : State) (list s : List ℕ) (k : ℕ) → stepOf m (length list) s .answer ≡ Refused k → Stands m list (leftOf m list s)

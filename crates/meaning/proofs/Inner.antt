@@ -47,8 +47,8 @@ count-or F x (suc t) = go (order t x) (count-or F x t)
 -- from s on, only s has the property
 count-one : (F : ℕ → Bool) (s w : ℕ) → F s ≡ true → ((b : ℕ) → s < b → b < s + suc w → F b ≡ false) → countBelow (s + suc w) F ≡ countBelow s F + 1
 unfolding countBelow
-count-one F s zero e h = rw (add-suc, add-zero, e)
-count-one F s (suc w) e h = rw add-suc (rw (h (s + suc w) (omega arith) (omega arith)) (ap (λ (x : ℕ). x + 0) (count-one F s w e (λ b g k. h b g (omega arith))) ∙ add-zero _))
+count-one F s zero e h = rw (add-suc s 0, add-zero s, e)
+count-one F s (suc w) e h = rw (add-suc s (suc w)) (rw (h (s + suc w) (omega arith) (omega arith)) (ap (λ (x : ℕ). x + 0) (count-one F s w e (λ b g k. h b g (omega arith))) ∙ add-zero _))
 
 -- all but 0
 count-inner : (F : ℕ → Bool) (t : ℕ) → countBelow (suc t) (λ b. ltb 0 b && F b) + pick (F 0) 1 0 ≡ countBelow (suc t) F

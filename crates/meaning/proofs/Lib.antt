@@ -50,3 +50,5 @@ pub mod Spread
 pub mod Renumbered
 pub mod Swapped
 pub mod Inner
+pub mod Outcomes
+pub mod DemandsHold

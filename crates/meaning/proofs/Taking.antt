@@ -3,7 +3,7 @@ use mathlib.Core.Path.{_≡_, refl, sym, ap, _∙_}
 use mathlib.Core.Logic.{_↔_}
 use mathlib.Core.Bool.{Bool, true, false, not, true≢false}
 use mathlib.Core.Option.{Option, none, some}
-use mathlib.Core.List.{List}
+use mathlib.Core.List.{List, [], _∷_}
 use Prim.Native.Nat.{ℕ, _+_, _*_, _≤_, _<_}
 use native.Mathlib.Omega.{arith}
 use lib.Dec.{ltb, eqb}
@@ -20,11 +20,11 @@ use Rattle.meaning.specs.Rule.{ruleWord}
 use Rattle.meaning.specs.Atoms.{withCut}
 use Rattle.meaning.specs.Questions.{byAddress}
 use Rattle.meaning.specs.Records.{isKind, bodyOf, recordOf, readOf, phaseOf}
-use Rattle.meaning.specs.Step.{Done, when, refusal, withRule, inserted, leaves, only, accepted, taken, stepBy, stepOf}
+use Rattle.meaning.specs.Step.{Done, when, refusal, withRule, inserted, leaves, only, answers, accepted, taken, stepBy, stepOf}
 use Rattle.meaning.proofs.Sound.{when-none}
 use Rattle.meaning.proofs.Steps.{Stepped, short, ended, unread, turned, took, stepped, isQuestion, turnedBy}
 use Rattle.meaning.proofs.Stops.{at-end, stays}
-use Rattle.meaning.proofs.Demands.{refusedBy, ruleOf, then, Accepts}
+use Rattle.meaning.proofs.Demands.{refusedBy, Asks, ruleOf, then, Accepts}
 
 -- ---- kinds of records
 
@@ -136,6 +136,27 @@ module _ (m : State) (room : ℕ) (s : List ℕ) where
       go false false true d is e f = let z : _≡_ {A = ℕ} 0 1 = cc in absurd (omega arith)
       go false false false true is e f = let z : _≡_ {A = ℕ} 0 1 = cc in absurd (omega arith)
       go false false false false is e f = last _ refl is e
+
+-- ---- a question that is not refused
+
+empty-close : (s : List ℕ) → length s ≡ 0 → recordOf s ≡ close
+unfolding recordOf
+empty-close [] e = refl
+empty-close (x ∷ s) e = absurd (omega arith)
+
+module _ (m : State) (room : ℕ) (s : List ℕ) (r : Record) (A : Asks m room s r) (q : isQuestion r ≡ true) where
+  took-question : Took m room s
+  took-question = accepts m room s (A .taken) (λ e. true≢false (sym q ∙ ap isQuestion (sym (A .record-is) ∙ empty-close s (end-is m room s .0 e .1)) ∙ (unfold isQuestion in refl)))
+
+  pub asked-passes : refusal m r ≡ none
+  asked-passes = rw (A .record-is) at (took-question .passes)
+
+  -- THE LAW: it is answered by what the definitions of the questions say
+  pub asked-is : stepOf m room s .answer ≡ byAddress m r
+  unfolding accepted answers
+  asked-is =
+      ap (λ (d : Done). d .answer) (took-question .is) ∙ ap (answers (byAddress m) m) (A .record-is)
+      ∙ by-question (λ r. answers (byAddress m) m r ≡ byAddress m r) refl (λ v a. refl) (λ v w. refl) (λ v. refl) r q
 
 -- ---- an accepted insert or remove
 
