@@ -48,3 +48,12 @@ pub mod Labelled
 pub mod Reading
 pub mod Splitting
 pub mod OneRule
+pub mod Demands
+pub mod Twins
+pub mod Taking
+pub mod Spread
+pub mod Renumbered
+pub mod Swapped
+pub mod Inner
+pub mod Outcomes
+pub mod DemandsHold
