@@ -26,13 +26,14 @@ fn take_at(bytes: &[u8], at: usize) -> Placed
     ensures { λ r. ⌜ r ≡ placedAt (now (bytes .entry)) at ⌝ }
 {
     let read = read_at(bytes, at);
-    match read {
-        Read::Got(_, n) => Placed {
-            read,
-            place: at + n,
-        },
-        Read::Refused(_) => Placed { read, place: at },
-        Read::End => Placed { read, place: at },
+    let passed = match read {
+        Read::Got(_, n) => n,
+        Read::Refused(_) => 0,
+        Read::End => 0,
+    };
+    Placed {
+        read,
+        place: at + passed,
     }
 }
 
