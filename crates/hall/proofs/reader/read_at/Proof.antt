@@ -1,9 +1,12 @@
 -- `hall::reader::read_at` meets its contract: past the end no byte is left, else the rest of the stream is read. Assumes nothing.
 use mathlib.Core.Path.{ap, _∙_}
+use Prim.Native.Nat.{_-_}
+use native.Mathlib.Omega.{arith}
+use lib.ListN.{length, drop, length-drop}
+use lib.Seq.{take-all}
 use borrow.Author.Needs.{needs}
 use Rattle.meaning.specs.Records.{readOf}
 use Rattle.meaning.proofs.Reading.{read-past}
-use Rattle.hall.proofs.Running.{whole-rest}
 use Rattle.hall.proofs.reader.read_at.Statement.{statement}
 use Rattle.hall.proofs.reader.read_at.Tie as tie
 
@@ -25,7 +28,7 @@ read-record-requires c κs = search needs
 returns-2 : tie.Need-returns-2
 returns-2 c =
     let a = c .before .before .before .before .args in
-    c .read-record .ensures ∙ ap readOf (whole-rest (a .bytes .now) (a .at))
+    c .read-record .ensures ∙ ap readOf (take-all (length (a .bytes .now) - a .at) (drop (a .at) (a .bytes .now)) (rw length-drop (omega arith)))
 
 pub read-at-spec : {M : Type 1} → statement M
 read-at-spec =
