@@ -52,3 +52,4 @@ pub mod Swapped
 pub mod Inner
 pub mod Outcomes
 pub mod DemandsHold
+pub mod Standing
