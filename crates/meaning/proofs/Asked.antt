@@ -2,35 +2,38 @@
 -- Assumes nothing.
 use mathlib.Core.Path.{_≡_, refl, sym, ap, _∙_}
 use mathlib.Core.Logic.{_↔_, Iff·symm}
-use mathlib.Core.Bool.{Bool, true, false, true≢false}
+use mathlib.Core.Bool.{true, true≢false}
 use mathlib.Core.Option.{Option, none, some}
-use Prim.Native.Nat.{ℕ, suc, _+_, _≤_, _<_}
+use Prim.Native.Nat.{ℕ, _+_, _<_}
 use native.Mathlib.Nat.{not-suc-le-zero}
 use native.Mathlib.Omega.{arith}
 use Rattle.meaning.specs.declared.Fate.{Fate}
 use Rattle.meaning.specs.declared.Fate.the-variants.{Out, Lost, Round}
-use Rattle.meaning.specs.declared.Answer.{Answer}
-use Rattle.meaning.specs.declared.Answer.the-variants.{Loop, NoLoop, Went, Yes, No, Tally}
-use Rattle.meaning.specs.declared.Record.the-variants.{Loop as loop, Fate as fate, Reach as reach, Tally as tally}
-use Rattle.meaning.specs.Search.{pick, anyBelow, lowestBelow, countBelow}
+use Rattle.meaning.specs.declared.Answer.the-variants.{Loop, NoLoop, Yes, No, Tally}
+use Rattle.meaning.specs.declared.Record.the-variants.{Loop as loop, Reach as reach, Tally as tally}
+use Rattle.meaning.specs.Search.{countBelow}
 use Rattle.meaning.specs.Hall.{top, State, endOf}
 use Rattle.meaning.specs.Winner.{nextAt}
-use Rattle.meaning.specs.Walk.{at, after, goesRound, onCircle, comesTo}
+use Rattle.meaning.specs.Walk.{at, after, goesRound, onCircle}
 use Rattle.meaning.specs.Questions.{fateOf, loopsAt, circleAt, someNode, loopFrom, reachesAt, reachFrom, isOut, isLost, isRound, asked, byAddress}
 use Rattle.meaning.specs.Run.{Came}
 use Rattle.meaning.proofs.Members.{any-true, any-some}
-use Rattle.meaning.proofs.Walks.{Never, Reaches, OnCircle, IsFate}
+use Rattle.meaning.proofs.Walks.{Never, OnCircle, IsFate}
 use Rattle.meaning.proofs.Kept.{sound}
 use Rattle.meaning.proofs.Means.{closed-in, round-is, circle-is, loop-circle, tally-all}
 use Rattle.meaning.proofs.Exchange.{reach-is}
 use Rattle.meaning.proofs.Fates.{fate-exact}
-use Rattle.meaning.proofs.Searches.{Lowest, lowest-by, lowest-once, Sought, missing, found, sought, lowest-is, lowest-none}
+use Rattle.meaning.proofs.Searches.{Lowest, lowest-by, lowest-once, Sought, missing, found, sought, lowest-is}
 
 -- ---- loop
 
 -- the walk of a packet to address a never ends from some node
 abbrev pub Loops : State → ℕ → Type 0
 Loops m a = (v : ℕ) × (v < m .nodes) × Never (nextAt m a) (endOf m) (at v)
+
+-- the walk of a packet to address a from node v stands at node w at some time, the start counted
+abbrev pub Comes : State → ℕ → ℕ → ℕ → Type 0
+Comes m v w a = (k : ℕ) × (after (nextAt m a) (endOf m) k (at v) ≡ at w)
 
 module _ (m : State) (c : Came m) where
   loops-is : (a : ℕ) → (loopsAt m a ≡ true) ↔ Loops m a
@@ -97,36 +100,32 @@ module _ (m : State) (c : Came m) where
   -- ---- reach
 
   module _ (v w : ℕ) (h : v < m .nodes) where
-    -- the walk of a packet to address a from node v stands at node w at some time, the start counted
-    abbrev pub Comes : ℕ → Type 0
-    Comes a = (k : ℕ) × (after (nextAt m a) (endOf m) k (at v) ≡ at w)
-
-    comes-is : (a : ℕ) → (reachesAt m v w a ≡ true) ↔ Comes a
+    comes-is : (a : ℕ) → (reachesAt m v w a ≡ true) ↔ Comes m v w a
     unfolding reachesAt
     comes-is a = reach-is (nextAt m a) (endOf m) (m .nodes) (closed-in m (sound m c) a) v h w
 
     -- THE LAW: the answer to reach is yes and address a exactly when a is the lowest address whose walk from v stands at w at some time
-    pub reach-yes : (a : ℕ) → (byAddress m (reach v w) ≡ Yes a) ↔ Lowest top Comes a
+    pub reach-yes : (a : ℕ) → (byAddress m (reach v w) ≡ Yes a) ↔ Lowest top (Comes m v w) a
     unfolding byAddress asked reachFrom
     reach-yes a = (there _ (sought (reachesAt m v w) top), back _ (sought (reachesAt m v w) top))
       where
-        there : (o : Option ℕ) → Sought (reachesAt m v w) top o → reachFrom o ≡ Yes a → Lowest top Comes a
+        there : (o : Option ℕ) → Sought (reachesAt m v w) top o → reachFrom o ≡ Yes a → Lowest top (Comes m v w) a
         there o (missing f) e = let z : _≡_ {A = ℕ} 0 1 = cc in absurd (omega arith)
         there o (found b x) e = let p : b ≡ a = cc in lowest-by top _ _ (λ i l. comes-is i) a (rw p at x)
 
-        back : (o : Option ℕ) → Sought (reachesAt m v w) top o → Lowest top Comes a → reachFrom o ≡ Yes a
+        back : (o : Option ℕ) → Sought (reachesAt m v w) top o → Lowest top (Comes m v w) a → reachFrom o ≡ Yes a
         back o (missing f) x = absurd (f a (x .within) (comes-is a .1 (x .has)))
         back o (found b z) x = ap Yes (lowest-once top (λ i. reachesAt m v w i ≡ true) b a z (lowest-by top _ _ (λ i l. Iff·symm (comes-is i)) a x))
 
-    pub reach-no : (byAddress m (reach v w) ≡ No) ↔ ((a : ℕ) → a < top → Comes a → ⊥)
+    pub reach-no : (byAddress m (reach v w) ≡ No) ↔ ((a : ℕ) → a < top → Comes m v w a → ⊥)
     unfolding byAddress asked reachFrom
     reach-no = (there _ (sought (reachesAt m v w) top), back _ (sought (reachesAt m v w) top))
       where
-        there : (o : Option ℕ) → Sought (reachesAt m v w) top o → reachFrom o ≡ No → (a : ℕ) → a < top → Comes a → ⊥
+        there : (o : Option ℕ) → Sought (reachesAt m v w) top o → reachFrom o ≡ No → (a : ℕ) → a < top → Comes m v w a → ⊥
         there o (missing f) e a l x = f a l (comes-is a .1 x)
         there o (found b x) e a l y = let z : _≡_ {A = ℕ} 0 1 = cc in omega arith
 
-        back : (o : Option ℕ) → Sought (reachesAt m v w) top o → ((a : ℕ) → a < top → Comes a → ⊥) → reachFrom o ≡ No
+        back : (o : Option ℕ) → Sought (reachesAt m v w) top o → ((a : ℕ) → a < top → Comes m v w a → ⊥) → reachFrom o ≡ No
         back o (missing f) g = refl
         back o (found b x) g = absurd (g b (x .within) (comes-is b .0 (x .has)))
 

@@ -2,14 +2,14 @@
 -- How atoms are numbered: atom 0 starts at 0, a split atom keeps its number below, and the part above takes the next. Assumes nothing.
 use mathlib.Core.Path.{_≡_, refl, sym, ap, _∙_, subst}
 use mathlib.Core.Logic.{_↔_, _⊎_, inl, inr, ⊎-elim}
-use mathlib.Core.Bool.{Bool, true, false, true≢false}
-use mathlib.Core.Option.{Option, none, some}
+use mathlib.Core.Bool.{Bool, true, false}
+use mathlib.Core.Option.{none}
 use mathlib.Core.List.{List}
 use Prim.Native.Nat.{ℕ, zero, suc, _+_, _-_, _^_, _≤_, _<_}
 use native.Mathlib.Omega.{arith}
 use lib.Pow.{pow-pos}
 use borrow.Author.Tests.{eqb-true, not-false}
-use lib.ListN.{length, getD}
+use lib.ListN.{getD}
 use Rattle.meaning.specs.declared.Answer.{Answer}
 use Rattle.meaning.specs.declared.Answer.the-variants.{Changed}
 use Rattle.meaning.specs.declared.Read.the-variants.{Got}
@@ -18,16 +18,16 @@ use Rattle.meaning.specs.declared.Record.the-variants.{Hall as hall, Lin
 use Rattle.meaning.specs.Search.{pick}
 use Rattle.meaning.specs.Hall.{top, State, fresh}
 use Rattle.meaning.specs.Rule.{ruleWord, lower, upper}
-use Rattle.meaning.specs.Atoms.{placeOf, isCut, insertAt, splitCut, splitNumber, splitCount, withCut}
+use Rattle.meaning.specs.Atoms.{placeOf, isCut, insertAt, splitCut, splitCount, withCut}
 use Rattle.meaning.specs.Questions.{byAddress}
 use Rattle.meaning.specs.Records.{readOf, phaseOf}
 use Rattle.meaning.specs.Step.{Done, refusal, added, withRule, inserted, withNodes, withLink, closed, leaves, only, answers, accepted, stepBy, stepOf}
 use Rattle.meaning.specs.Run.{Came, start, more}
-use Rattle.meaning.proofs.Tables.{Cuts, Numbers, Boundary}
+use Rattle.meaning.proofs.Tables.{Cuts, Boundary}
 use Rattle.meaning.proofs.Insert.{insert-below, insert-same, insert-over}
 use Rattle.meaning.proofs.Places.{Order, less, same, more as past, order}
 use Rattle.meaning.proofs.Parted.{within, is-boundary, boundary-is, split-has, split-keeps, split-count}
-use Rattle.meaning.proofs.Sound.{Sound, when-none, fresh-sound}
+use Rattle.meaning.proofs.Sound.{Sound, when-none}
 use Rattle.meaning.proofs.Words.{Sized, Fits, lower-of, upper-of}
 use Rattle.meaning.proofs.Kept.{Clear, clear, lower-top, upper-top, room-lower, room-upper, S₁, missing, count₁, sound}
 use Rattle.meaning.proofs.Steps.{Stepped, short, ended, unread, turned, took, reads-fit, stepped}

@@ -2,24 +2,23 @@
 -- and an atom is on a link exactly when, for each of its addresses, the winner at the link's source names the link. Assumes nothing.
 use mathlib.Core.Path.{_≡_, refl, sym, ap, _∙_}
 use mathlib.Core.Logic.{_↔_, _⊎_, inl, inr, ⊎-elim}
-use mathlib.Core.Bool.{Bool, true, false, _&&_, true≢false}
+use mathlib.Core.Bool.{Bool, true, false, true≢false}
 use mathlib.Core.Option.{Option, none, some}
-use mathlib.Core.List.{List}
-use Prim.Native.Nat.{ℕ, zero, suc, _+_, _≤_, _<_}
+use Prim.Native.Nat.{ℕ, _+_, _≤_, _<_}
 use native.Mathlib.Nat.{eq-or-lt-of-le}
 use native.Mathlib.Numerals.{add-one}
 use native.Mathlib.Omega.{arith}
-use lib.Dec.{ltb, eqb}
+use lib.Dec.{ltb}
 use lib.ListN.{getD}
-use borrow.Author.Tests.{eqb-true, eq-eqb, ltb-true, ltb-false, lt-ltb, le-ltb}
-use Rattle.meaning.specs.Search.{pick, anyBelow}
+use borrow.Author.Tests.{eqb-true, eq-eqb, lt-ltb, le-ltb}
+use Rattle.meaning.specs.Search.{pick}
 use Rattle.meaning.specs.Hall.{top, State, sourceOf}
 use Rattle.meaning.specs.Winner.{winner, nextAt}
 use Rattle.meaning.specs.Atoms.{placeOf}
 use Rattle.meaning.specs.Labels.{on, names, isOn, labelsOf}
 use Rattle.meaning.specs.Run.{Came}
-use Rattle.meaning.proofs.Tables.{Cuts, Holds, Numbers}
-use Rattle.meaning.proofs.Places.{place-holds, holds-place, cut-le, cut-top}
+use Rattle.meaning.proofs.Tables.{Holds}
+use Rattle.meaning.proofs.Places.{place-holds, holds-place, cut-top}
 use Rattle.meaning.proofs.Pigeon.{pigeon}
 use Rattle.meaning.proofs.Constant.{same-winner, same-next}
 use Rattle.meaning.proofs.Members.{labels-on, any-some, and-both, one-place, on-place}

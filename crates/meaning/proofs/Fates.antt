@@ -1,10 +1,10 @@
 -- The fate of a packet after any records: out, lost or round, exactly one of the three; round exactly when the walk never ends; hops below the number of nodes.
 -- Assumes nothing.
-use mathlib.Core.Path.{_≡_, refl, sym, ap, _∙_}
-use mathlib.Core.Logic.{_↔_, _⊎_, inl, inr, ⊎-elim}
-use mathlib.Core.Bool.{Bool, true, false, true≢false}
+use mathlib.Core.Path.{_≡_, refl, ap, _∙_}
+use mathlib.Core.Logic.{_↔_, _⊎_, inl, inr}
+use mathlib.Core.Bool.{Bool, true, false}
 use mathlib.Core.Option.{Option, none, some}
-use Prim.Native.Nat.{ℕ, suc, _+_, _-_, _≤_, _<_}
+use Prim.Native.Nat.{ℕ, _-_, _≤_, _<_}
 use native.Mathlib.Omega.{arith}
 use lib.Dec.{ltb}
 use borrow.Author.Tests.{ltb-true, ltb-false}
@@ -13,10 +13,10 @@ use Rattle.meaning.specs.declared.Fate.the-variants.{Out, Lost, Round}
 use Rattle.meaning.specs.Search.{pick}
 use Rattle.meaning.specs.Hall.{State, endOf}
 use Rattle.meaning.specs.Winner.{nextAt}
-use Rattle.meaning.specs.Walk.{Place, at, out, lost, arrive, leave, move, after, goesRound, fateIn}
-use Rattle.meaning.specs.Questions.{fateOf, isOut, isLost, isRound}
+use Rattle.meaning.specs.Walk.{Place, at, out, lost, arrive, leave, move, after}
+use Rattle.meaning.specs.Questions.{fateOf}
 use Rattle.meaning.specs.Run.{Came}
-use Rattle.meaning.proofs.Walks.{Going, Never, IsFate, round, one-fate, few-out, few-lost}
+use Rattle.meaning.proofs.Walks.{IsFate, round, one-fate, few-out, few-lost}
 use Rattle.meaning.proofs.Kept.{sound}
 use Rattle.meaning.proofs.Means.{closed-in, fate-of}
 

@@ -1,4 +1,32 @@
--- The laws of document 01's definitions, by subject.
+-- The laws of document 01's definitions, by subject. Assumes nothing.
+-- First the three demands, and that they hold:
+pub mod Demands
+pub mod DemandsHold
+-- then the laws that a reader looks for, in the document's order:
+pub mod Winners
+pub mod Standing
+pub mod Covering
+pub mod Boundaries
+pub mod Inner
+pub mod Numbering
+pub mod Updates
+pub mod Lists
+pub mod Spread
+pub mod Undone
+pub mod Fates
+pub mod Asked
+pub mod Twins
+pub mod Swapped
+pub mod Renumbered
+pub mod Refusals
+pub mod Outcomes
+pub mod Steps
+pub mod Stops
+pub mod Taking
+pub mod Said
+pub mod Listing
+pub mod Sides
+-- and then what they stand on, and what the code's proofs cite
 pub mod Tables
 pub mod Insert
 pub mod Places
@@ -6,12 +34,11 @@ pub mod Parted
 pub mod Constant
 pub mod Words
 pub mod Checks
-pub mod Refusals
 pub mod Sound
 pub mod Kept
 pub mod Agree
-pub mod Listing
 pub mod Members
+pub mod Searches
 pub mod Pigeon
 pub mod Walks
 pub mod Circles
@@ -29,27 +56,3 @@ pub mod Numbered
 pub mod Labelled
 pub mod Reading
 pub mod Splitting
-pub mod Said
-pub mod Steps
-pub mod Stops
-pub mod Covering
-pub mod Winners
-pub mod Fates
-pub mod Searches
-pub mod Asked
-pub mod Undone
-pub mod Boundaries
-pub mod Numbering
-pub mod Updates
-pub mod Lists
-pub mod Sides
-pub mod Demands
-pub mod Twins
-pub mod Taking
-pub mod Spread
-pub mod Renumbered
-pub mod Swapped
-pub mod Inner
-pub mod Outcomes
-pub mod DemandsHold
-pub mod Standing

@@ -6,7 +6,7 @@ use mathlib.Core.Option.{none}
 use mathlib.Core.List.{List}
 use Prim.Native.Nat.{ℕ, _+_, _≤_, _<_}
 use native.Mathlib.Omega.{arith}
-use lib.ListN.{length, getD}
+use lib.ListN.{getD}
 use Rattle.meaning.specs.declared.Record.{Record}
 use Rattle.meaning.specs.declared.Record.the-variants.{Hall as hall, Link as link, Close as close, Insert as insert, Remove as remove, Loop as loop, Fate as fate, Reach as reach, Tally as tally}
 use Rattle.meaning.specs.Search.{pick}
@@ -16,10 +16,9 @@ use Rattle.meaning.specs.Atoms.{placeOf, isCut, insertAt, splitCut, spli
 use Rattle.meaning.specs.Records.{phaseOf}
 use Rattle.meaning.specs.Step.{refusal, withNodes, withLink, closed, withRule, inserted, leaves}
 use Rattle.meaning.specs.Run.{Came}
-use Rattle.meaning.proofs.Tables.{Holds}
 use Rattle.meaning.proofs.Insert.{insert-below, insert-same, insert-next}
-use Rattle.meaning.proofs.Places.{Order, less, same, more, order, holds-place}
-use Rattle.meaning.proofs.Parted.{starts, within, ends}
+use Rattle.meaning.proofs.Places.{Order, less, same, more, order}
+use Rattle.meaning.proofs.Parted.{within}
 use Rattle.meaning.proofs.Words.{Fits}
 use Rattle.meaning.proofs.Sound.{Sound, came-keeps}
 use Rattle.meaning.proofs.Covering.{InAtom, place-is, places-agree}

@@ -8,12 +8,11 @@ use Prim.Native.Nat.{ℕ, _+_, _-_, _%_, _^_, _≤_, _<_}
 use native.Mathlib.Omega.{arith}
 use lib.Dec.{leb, ltb, eqb}
 use lib.ListN.{getD}
-use borrow.Author.Tests.{ltb-true, ltb-false, leb-true, leb-false, eqb-true, eqb-false, eq-eqb, ne-eqb, not-true, not-false, lt-ltb, le-leb}
+use borrow.Author.Tests.{ltb-true, ltb-false, leb-true, leb-false, eqb-true, eqb-false, eq-eqb, ne-eqb, not-true, not-false, le-leb}
 use Rattle.meaning.specs.declared.Record.{Record}
 use Rattle.meaning.specs.declared.Record.the-variants.{Hall as hall, Link as link, Close as close, Insert as insert, Remove as remove, Loop as loop, Fate as fate, Reach as reach, Tally as tally}
-use Rattle.meaning.specs.Search.{anyBelow}
 use Rattle.meaning.specs.Hall.{State, sourceOf}
-use Rattle.meaning.specs.Rule.{ruleWord, live, linkOf, rank, covers, overlap}
+use Rattle.meaning.specs.Rule.{ruleWord, live, linkOf, rank, covers}
 use Rattle.meaning.specs.Winner.{ruleAt}
 use Rattle.meaning.specs.Step.{when, ragged, clashes, added, refusal}
 use Rattle.meaning.specs.Run.{Came}

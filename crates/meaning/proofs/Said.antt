@@ -6,7 +6,7 @@ use Prim.Native.Nat.{ℕ}
 use Rattle.meaning.specs.declared.Fate.the-variants.{Out, Lost, Round}
 use Rattle.meaning.specs.declared.Answer.{Answer}
 use Rattle.meaning.specs.declared.Answer.the-variants.{End, Refused, Ok, Changed, Loop, NoLoop, Went, Yes, No, Tally}
-use Rattle.meaning.specs.Answers.{Word, end, refused, ok, loop, none, out, lost, round, yes, no, tally, Said, says, saidFate, said}
+use Rattle.meaning.specs.Answers.{Word, end, refused, ok, loop, none, out, lost, round, yes, no, tally, Said, saidFate, said}
 use Rattle.meaning.specs.Hall.{State}
 use Rattle.meaning.specs.Box.{Left, left}
 

@@ -1,16 +1,19 @@
 -- The document's boundary cases, both sides of each, and the order of the checks: records and what the definitions answer, in one table.
 -- Assumes nothing.
-use mathlib.Core.Path.{_≡_, refl, _∙_}
+use mathlib.Core.Path.{_≡_, refl, ap, _∙_}
 use mathlib.Core.List.{List, [], _∷_, _++_}
-use Prim.Native.Nat.{ℕ, zero, suc}
-use lib.ListN.{length, replicate}
+use Prim.Native.Nat.{ℕ, zero, suc, _*_}
+use lib.ListN.{length, getD, replicate}
 use Rattle.meaning.specs.declared.Answer.{Answer}
 use Rattle.meaning.specs.declared.Answer.the-variants.{End, Refused, Ok, Changed, Loop, Went, Yes, No, Tally}
 use Rattle.meaning.specs.declared.Fate.the-variants.{Out, Lost, Round}
-use Rattle.meaning.specs.Hall.{fresh}
+use Rattle.meaning.specs.Search.{tabulate}
+use Rattle.meaning.specs.Hall.{zeroes, fresh}
+use Rattle.meaning.specs.Labels.{names, isOn, wordOf, labelsOf}
+use Rattle.meaning.specs.Changes.{overwrite}
 use Rattle.meaning.specs.Step.{stepOf, stepIn}
-use Rattle.meaning.specs.Run.{start, Line, linesFrom, linesOf}
-use Rattle.meaning.proofs.Agree.{lines-in}
+use Rattle.meaning.specs.Run.{start, Line, Ran, onward, runFrom, linesFrom, linesOf}
+use Rattle.meaning.proofs.Agree.{lines-in, run-in}
 use Rattle.meaning.proofs.Listing.{opened}
 
 -- a record's bytes, and what it is answered and writes
@@ -87,6 +90,14 @@ by-places = refl
 pub sides : linesOf 2560 (bytesOf table) ≡ answersOf table
 unfolding linesOf
 sides = lines-in 2560 (length (bytesOf table)) fresh (bytesOf table) start ∙ by-places
+
+-- the labels that these records leave, the word of each link's first 64 atoms: link 0 has atoms 1, 3, 4 and 5, link 1 atom 3, link 2 atoms 1 and 4, link 3 atom 5
+labels-by-places : tabulate 4 0 (λ l. getD (labelsOf (runFrom stepIn 50 0 fresh (zeroes 2560) (bytesOf table) .left)) (8 * l) 0) ≡ 58 ∷ 8 ∷ 18 ∷ 32 ∷ []
+unfolding bytesOf table opened onward overwrite runFrom names isOn wordOf tabulate labelsOf
+labels-by-places = refl
+
+pub labels : tabulate 4 0 (λ l. getD (labelsOf (runFrom stepOf 50 0 fresh (zeroes 2560) (bytesOf table) .left)) (8 * l) 0) ≡ 58 ∷ 8 ∷ 18 ∷ 32 ∷ []
+labels = ap (λ (x : Ran). tabulate 4 0 (λ l. getD (labelsOf (x .left)) (8 * l) 0)) (run-in 50 0 fresh (zeroes 2560) (bytesOf table) start) ∙ labels-by-places
 
 -- ---- link 64 passes, link 65 gives 6
 

@@ -1,15 +1,15 @@
 -- What a step comes to: five ways, by what the bytes begin with. A refusal, a question and "end" leave everything as it was.
 -- Assumes nothing.
 use mathlib.Core.Path.{_≡_, refl, sym, ap, _∙_}
-use mathlib.Core.Logic.{_↔_, _⊎_, inl, inr}
-use mathlib.Core.Bool.{Bool, true, false, not, _&&_, _||_, true≢false}
+use mathlib.Core.Logic.{_⊎_, inl, inr}
+use mathlib.Core.Bool.{Bool, true, false, not, true≢false}
 use mathlib.Core.Option.{Option, none, some}
 use mathlib.Core.List.{List, []}
-use Prim.Native.Nat.{ℕ, zero, suc, _+_, _*_, _≤_, _<_}
+use Prim.Native.Nat.{ℕ, _+_, _≤_, _<_}
 use native.Mathlib.Omega.{arith}
-use lib.Dec.{leb, ltb, eqb}
-use lib.ListN.{length, getD, drop}
-use borrow.Author.Tests.{ltb-true, ltb-false, eqb-true, eq-eqb, not-false, le-ltb, lt-ltb}
+use lib.Dec.{ltb, eqb}
+use lib.ListN.{length, getD}
+use borrow.Author.Tests.{ltb-true, ltb-false, eq-eqb}
 use Rattle.meaning.specs.declared.Answer.{Answer}
 use Rattle.meaning.specs.declared.Answer.the-variants.{End, Refused, Ok, Changed, Loop, NoLoop, Went, Yes, No, Tally}
 use Rattle.meaning.specs.declared.Read.{Read}
@@ -21,8 +21,7 @@ use Rattle.meaning.specs.Hall.{State}
 use Rattle.meaning.specs.Labels.{labelsOf, ownersOf}
 use Rattle.meaning.specs.Changes.{entriesAt, overwrite}
 use Rattle.meaning.specs.Records.{isKind, bodyOf, recordOf, readOf, phaseOf}
-use Rattle.meaning.specs.Step.{Done, when, refusal, leaves, nodeOf, changes, only, answers, accepted, taken, stepBy, stepOf}
-use Rattle.meaning.specs.Run.{Came}
+use Rattle.meaning.specs.Step.{Done, when, refusal, leaves, changes, only, answers, accepted, taken, stepBy, stepOf}
 use Rattle.meaning.specs.Box.{left, leftBy, leftOf}
 use Rattle.meaning.proofs.Words.{Fits, fits}
 

@@ -1,11 +1,11 @@
 -- Where the place stays and where it goes on: a step passes no byte exactly when it is answered "end", 0, 1 or 2, and a run stops at one of these.
 -- How many entries an accepted insert or remove writes. Assumes nothing.
-use mathlib.Core.Path.{_≡_, refl, sym, ap, _∙_, subst}
-use mathlib.Core.Logic.{_↔_, _⊎_, inl, inr, ⊎-elim}
-use mathlib.Core.Bool.{Bool, true, false, true≢false}
+use mathlib.Core.Path.{_≡_, refl, ap, _∙_}
+use mathlib.Core.Logic.{_↔_, inl, inr}
+use mathlib.Core.Bool.{false}
 use mathlib.Core.Option.{Option, none, some}
-use mathlib.Core.List.{List, []}
-use Prim.Native.Nat.{ℕ, zero, suc, _+_, _-_, _*_, _≤_, _<_}
+use mathlib.Core.List.{List}
+use Prim.Native.Nat.{ℕ, zero, suc, _+_, _*_, _≤_, _<_}
 use native.Mathlib.Omega.{arith}
 use lib.ListN.{length, drop, length-drop}
 use lib.Seq.{drop-drop}
@@ -17,9 +17,9 @@ use Rattle.meaning.specs.Search.{lowestBelow}
 use Rattle.meaning.specs.Hall.{top, State, fresh, sourceOf}
 use Rattle.meaning.specs.Rule.{linkOf}
 use Rattle.meaning.specs.Winner.{ruleAt}
-use Rattle.meaning.specs.Changes.{overwrite, entriesAt}
+use Rattle.meaning.specs.Changes.{overwrite}
 use Rattle.meaning.specs.Questions.{loopsAt, circleAt, someNode, loopFrom, reachesAt, reachFrom, asked, byAddress}
-use Rattle.meaning.specs.Step.{Done, leaves, listed, changes, only, answers, accepted, stepBy, stepOf}
+use Rattle.meaning.specs.Step.{Done, leaves, listed, changes, only, answers, accepted, stepOf}
 use Rattle.meaning.specs.Run.{Ran, onward, runFrom, runOf, Came, start, more}
 use Rattle.meaning.proofs.Sound.{Sound}
 use Rattle.meaning.proofs.Kept.{sound}

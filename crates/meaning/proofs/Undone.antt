@@ -1,37 +1,29 @@
 -- An accepted insert followed at once by its own removal: two change lists over the same ranges with old and new link exchanged, and the rules as they were.
 -- Assumes nothing.
 use mathlib.Core.Path.{_≡_, refl, sym, ap, ap₂, _∙_}
-use mathlib.Core.Logic.{⊎-elim}
-use mathlib.Core.Bool.{Bool, true, false, not}
-use mathlib.Core.Option.{Option, none, some}
+use mathlib.Core.Option.{none}
 use mathlib.Core.List.{List, [], _∷_, _++_}
-use Prim.Native.Nat.{ℕ, _+_, _≤_, _<_}
+use Prim.Native.Nat.{ℕ, _≤_}
 use native.Mathlib.Omega.{arith}
-use lib.Dec.{ltb, eqb}
-use lib.ListN.{length, getD}
+use lib.ListN.{length}
 use borrow.Author.Tests.{le-ltb, eqb-true, not-false}
-use Rattle.meaning.specs.declared.Answer.{Answer}
-use Rattle.meaning.specs.declared.Answer.the-variants.{End, Refused, Changed}
-use Rattle.meaning.specs.declared.Read.{Read}
-use Rattle.meaning.specs.declared.Read.the-variants.{End as Nothing, Refused as Unread, Got}
-use Rattle.meaning.specs.declared.Record.{Record}
+use Rattle.meaning.specs.declared.Answer.the-variants.{Changed}
+use Rattle.meaning.specs.declared.Read.the-variants.{Got}
 use Rattle.meaning.specs.declared.Record.the-variants.{Insert as insert, Remove as remove}
-use Rattle.meaning.specs.Search.{pick}
 use Rattle.meaning.specs.Hall.{State, sourceOf}
-use Rattle.meaning.specs.Rule.{ruleWord, live, linkOf}
-use Rattle.meaning.specs.Winner.{ruleAt, nextAt}
-use Rattle.meaning.specs.Changes.{linkOrNone, entryAt, entriesAt}
+use Rattle.meaning.specs.Rule.{ruleWord}
+use Rattle.meaning.specs.Changes.{entryAt, entriesAt}
 use Rattle.meaning.specs.Atoms.{withCut}
 use Rattle.meaning.specs.Questions.{byAddress}
-use Rattle.meaning.specs.Records.{isKind, bodyOf, recordOf, readOf, phaseOf}
+use Rattle.meaning.specs.Records.{readOf, phaseOf}
 use Rattle.meaning.specs.Step.{Done, when, refusal, withRule, inserted, leaves, nodeOf, changes, only, answers, accepted, stepBy, stepOf}
 use Rattle.meaning.specs.Run.{Came}
-use Rattle.meaning.proofs.Words.{Fits, fits, Sized}
+use Rattle.meaning.proofs.Words.{Fits, Sized}
 use Rattle.meaning.proofs.Sound.{Sound, when-none}
 use Rattle.meaning.proofs.Kept.{Clear, clear, sound}
-use Rattle.meaning.proofs.Exchange.{exchanged, exchanged-entry, node-there, rules-back, links-back}
+use Rattle.meaning.proofs.Exchange.{exchanged, exchanged-entry, node-there, rules-back}
 use Rattle.meaning.proofs.Winners.{insert-stores}
-use Rattle.meaning.proofs.Steps.{Stepped, short, ended, unread, turned, took, stepped, turnedBy, reads-fit, accepts}
+use Rattle.meaning.proofs.Steps.{Stepped, short, ended, unread, turned, took, stepped, reads-fit, accepts}
 
 -- two change lists over the same atoms and ranges, entry by entry, with old and new link exchanged
 pub data Exchanged : List ℕ → List ℕ → Type 0 where

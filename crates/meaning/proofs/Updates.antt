@@ -1,20 +1,20 @@
 -- What an accepted insert and remove change: the winners where the rule wins or had won and nowhere else, the labels of its own node alone;
 -- and a split changes no label. Assumes nothing.
-use mathlib.Core.Path.{_≡_, refl, sym, ap, ap₂, _∙_, subst}
+use mathlib.Core.Path.{_≡_, refl, sym, ap, _∙_}
 use mathlib.Core.Logic.{_↔_, _⊎_, inl, inr, ⊎-elim}
-use mathlib.Core.Bool.{Bool, true, false, not, true≢false}
+use mathlib.Core.Bool.{true, false, not, true≢false}
 use mathlib.Core.Option.{Option, none, some}
 use mathlib.Core.List.{List}
-use Prim.Native.Nat.{ℕ, _+_, _/_, _≤_, _<_}
+use Prim.Native.Nat.{ℕ, _/_, _≤_, _<_}
 use native.Mathlib.Decide.{ℕ-discrete}
 use native.Mathlib.Omega.{arith}
-use lib.Dec.{ltb, eqb}
-use lib.ListN.{length, getD}
+use lib.Dec.{ltb}
+use lib.ListN.{getD}
 use borrow.Author.Tests.{ltb-false, eqb-false, ne-eqb, not-true}
 use Rattle.meaning.specs.declared.Record.the-variants.{Insert as insert, Remove as remove}
 use Rattle.meaning.specs.Search.{pick}
 use Rattle.meaning.specs.Hall.{top, State, sourceOf}
-use Rattle.meaning.specs.Rule.{live, linkOf, rank, lower, upper}
+use Rattle.meaning.specs.Rule.{live, linkOf}
 use Rattle.meaning.specs.Winner.{ruleAt, winner, linkFor, nextAt}
 use Rattle.meaning.specs.Atoms.{isCut, withCut}
 use Rattle.meaning.specs.Labels.{names, isOn}

@@ -2,21 +2,20 @@
 -- Assumes nothing.
 use mathlib.Core.Path.{_≡_, refl, sym, ap, ap₂, _∙_}
 use mathlib.Core.Logic.{_↔_, _⊎_, inl, inr, ⊎-elim}
-use mathlib.Core.Bool.{Bool, true, false, _&&_, true≢false}
+use mathlib.Core.Bool.{true, false, _&&_}
 use mathlib.Core.Option.{none}
 use Prim.Native.Nat.{ℕ, _+_, _-_, _/_, _%_, _^_, _≤_, _<_}
 use native.Mathlib.Omega.{arith}
 use lib.Pow.{pow-pos}
-use lib.Dec.{leb, ltb, eqb}
+use lib.Dec.{leb, ltb}
 use lib.ListN.{length}
 use borrow.Author.Tests.{ltb-true, ltb-false, leb-true, eqb-true, eq-eqb, lt-ltb, le-leb}
-use Rattle.meaning.specs.declared.Record.{Record}
 use Rattle.meaning.specs.declared.Record.the-variants.{Insert as insert, Remove as remove}
 use Rattle.meaning.specs.Hall.{State, sourceOf}
 use Rattle.meaning.specs.Rule.{ruleWord, live, linkOf, lengthOf, rank, lower, upper, covers, overlap}
-use Rattle.meaning.specs.Winner.{best, ruleAt, eligible, winner}
+use Rattle.meaning.specs.Winner.{ruleAt, eligible, winner}
 use Rattle.meaning.specs.Atoms.{withCut}
-use Rattle.meaning.specs.Step.{withRule, inserted, leaves, refusal}
+use Rattle.meaning.specs.Step.{inserted, leaves, refusal}
 use Rattle.meaning.specs.Run.{Came}
 use Rattle.meaning.proofs.Places.{le-or-lt}
 use Rattle.meaning.proofs.Members.{and-both}
