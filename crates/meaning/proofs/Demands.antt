@@ -24,11 +24,11 @@ use Rattle.meaning.specs.Walk.{at, after}
 use Rattle.meaning.specs.Questions.{isOut, isLost, isRound, fateOf}
 use Rattle.meaning.specs.Records.{bodyOf, recordOf, phaseOf}
 use Rattle.meaning.specs.Step.{Done, nodeOf, stepOf}
-use Rattle.meaning.specs.Run.{runOf, Came}
+use Rattle.meaning.specs.Run.{runOf, Came, start, more}
 use Rattle.meaning.specs.Box.{Left, leftOf}
 use Rattle.meaning.proofs.Walks.{Never, OnCircle, IsFate}
 use Rattle.meaning.proofs.Searches.{Lowest}
-use Rattle.meaning.proofs.Winners.{Serves, Outranks}
+use Rattle.meaning.proofs.Winners.{Serves, Outranks, Stored}
 use Rattle.meaning.proofs.Covering.{InAtom}
 use Rattle.meaning.proofs.Steps.{isQuestion}
 use Rattle.meaning.proofs.Stops.{Stops, Runs}
@@ -145,52 +145,6 @@ pub record Asks (m : State) (room : ℕ) (s : List ℕ) (r : Record) : Type 0 wh
   pub record-is : recordOf s ≡ r
   pub taken : refusedBy (stepOf m room s .answer) ≡ none
 
-pub record Demand2 : Type 0 where
-  -- "after any updates the atoms cover each address once"
-  pub covers : (m : State) → Came m → (a : ℕ) → a < top → (k : ℕ) × InAtom m k a
-  pub once : (m : State) → Came m → (a j k : ℕ) → InAtom m j a → InAtom m k a → j ≡ k
-  pub atoms : (m : State) → Came m → (k : ℕ) → (k < m .atoms) ↔ ((a : ℕ) × (a < top) × InAtom m k a)
-  -- "an atom is on a link exactly when, for each address in it, the highest-priority live rule at that link's source names that link"
-  pub labels : (m : State) → Came m → (l k : ℕ) → l < m .links → k < m .atoms
-      → (on (labelsOf m) l k ≡ true) ↔ ((a : ℕ) → InAtom m k a → Names m (sourceOf m l) a l)
-  -- "a loop is reported exactly when some address goes round"
-  pub reported : (m : State) → Came m → (room : ℕ) (s : List ℕ) → Asks m room s loop
-      → ((a v : ℕ) × (stepOf m room s .answer ≡ Loop a v)) ↔ ((a : ℕ) × (a < top) × GoesRound m a)
-  pub unreported : (m : State) → Came m → (room : ℕ) (s : List ℕ) → Asks m room s loop
-      → (stepOf m room s .answer ≡ NoLoop) ↔ ((a : ℕ) → a < top → GoesRound m a → ⊥)
-  -- "with the lowest such address (and the lowest node on one of its circles)"
-  pub witness : (m : State) → Came m → (room : ℕ) (s : List ℕ) (a v : ℕ) → Asks m room s loop → stepOf m room s .answer ≡ Loop a v
-      → Lowest top (GoesRound m) a × Lowest (m .nodes) (OnCircle (nextAt m a) (endOf m)) v
-  -- the walk: "At a node it takes the winner's link"
-  pub way : (m : State) → Came m → (v a l : ℕ) → (nextAt m a v ≡ some l) ↔ Names m v a l
-  pub fate-is : (m : State) → Came m → (v a : ℕ) → v < m .nodes → (f : Fate) → (fateOf m v a ≡ f) ↔ IsFate (nextAt m a) (endOf m) v f
-  -- fate, reach and tally
-  pub fate-told : (m : State) → Came m → (room : ℕ) (s : List ℕ) (v a : ℕ) → Asks m room s (fate v a) → stepOf m room s .answer ≡ Went (fateOf m v a)
-  pub reach-told : (m : State) → Came m → (room : ℕ) (s : List ℕ) (v w : ℕ) → Asks m room s (reach v w)
-      → ((a : ℕ) → (stepOf m room s .answer ≡ Yes a) ↔ Lowest top (ComesTo m v w) a) × ((stepOf m room s .answer ≡ No) ↔ ((a : ℕ) → a < top → ComesTo m v w a → ⊥))
-  pub tally-told : (m : State) → Came m → (room : ℕ) (s : List ℕ) (v : ℕ) → Asks m room s (tally v)
-      → stepOf m room s .answer ≡ Tally (countBelow top (λ a. isOut (fateOf m v a))) (countBelow top (λ a. isLost (fateOf m v a))) (countBelow top (λ a. isRound (fateOf m v a)))
-
--- ---- demand 3
-
--- two rules with the same prefix, length, priority and link
-pub record SameRule (v w : ℕ) : Type 0 where
-  pub prefix : lower v ≡ lower w
-  pub long : lengthOf v ≡ lengthOf w
-  pub priority : rank v ≡ rank w
-  pub link : linkOf v ≡ linkOf w
-
--- two histories on the same closed hall and links that end with the same live rules
-pub record Twins (m n : State) : Type 0 where
-  pub came : Came m × Came n
-  pub closed : (m .phase ≡ 2) × (n .phase ≡ 2)
-  pub nodes : m .nodes ≡ n .nodes
-  pub links : m .links ≡ n .links
-  pub source : (l : ℕ) → l < m .links → sourceOf m l ≡ sourceOf n l
-  pub end : (l : ℕ) → l < m .links → endOf m l ≡ endOf n l
-  pub number : (i : ℕ) → i < 256 → live (ruleAt m i) ≡ live (ruleAt n i)
-  pub rule : (i : ℕ) → i < 256 → live (ruleAt m i) ≡ true → SameRule (ruleAt m i) (ruleAt n i)
-
 -- the rule that an insert or a remove names
 unfoldable pub ruleOf : Record → Option ℕ
 ruleOf (hall n) = none
@@ -212,6 +166,57 @@ pub record Accepts (m : State) (room : ℕ) (s : List ℕ) (i : ℕ) : Type 0 wh
   pub names : ruleOf (recordOf s) ≡ some i
   pub count : ℕ
   pub ok : stepOf m room s .answer ≡ Changed count
+
+-- on the way by which a state came, rule i was inserted with link l, prefix p, length n and priority t, and no update of rule i was accepted since
+unfoldable pub InForce : {m : State} → Came m → ℕ → ℕ → ℕ → ℕ → ℕ → Type 0
+InForce start i l p n t = ⊥
+InForce (more {m = m} room s c) i l p n t = (Accepts m room s i × (recordOf s ≡ insert i l p n t)) ⊎ (InForce c i l p n t × (Accepts m room s i → ⊥))
+
+pub record Demand2 : Type 0 where
+  -- "after any updates": what is live is what was inserted and not removed since, with its parts
+  pub rules : {m : State} (c : Came m) (i l p n t : ℕ) → InForce c i l p n t ↔ Stored m i l p n t
+  -- "the atoms cover each address once"
+  pub covers : {m : State} → Came m → (a : ℕ) → a < top → (k : ℕ) × InAtom m k a
+  pub once : {m : State} → Came m → (a j k : ℕ) → InAtom m j a → InAtom m k a → j ≡ k
+  pub atoms : {m : State} → Came m → (k : ℕ) → (k < m .atoms) ↔ ((a : ℕ) × (a < top) × InAtom m k a)
+  -- "an atom is on a link exactly when, for each address in it, the highest-priority live rule at that link's source names that link"
+  pub labels : {m : State} → Came m → (l k : ℕ) → l < m .links → k < m .atoms → (on (labelsOf m) l k ≡ true) ↔ ((a : ℕ) → InAtom m k a → Names m (sourceOf m l) a l)
+  -- "a loop is reported exactly when some address goes round"
+  pub reported : {m : State} → Came m → (room : ℕ) (s : List ℕ) → Asks m room s loop
+      → ((a v : ℕ) × (stepOf m room s .answer ≡ Loop a v)) ↔ ((a : ℕ) × (a < top) × GoesRound m a)
+  pub unreported : {m : State} → Came m → (room : ℕ) (s : List ℕ) → Asks m room s loop
+      → (stepOf m room s .answer ≡ NoLoop) ↔ ((a : ℕ) → a < top → GoesRound m a → ⊥)
+  -- "with the lowest such address (and the lowest node on one of its circles)"
+  pub witness : {m : State} → Came m → (room : ℕ) (s : List ℕ) (a v : ℕ) → Asks m room s loop → stepOf m room s .answer ≡ Loop a v
+      → Lowest top (GoesRound m) a × Lowest (m .nodes) (OnCircle (nextAt m a) (endOf m)) v
+  -- the walk and the other questions: "At a node it takes the winner's link"; fate, reach and tally
+  pub way : {m : State} → Came m → (v a l : ℕ) → (nextAt m a v ≡ some l) ↔ Names m v a l
+  pub fate-is : {m : State} → Came m → (v a : ℕ) → v < m .nodes → (f : Fate) → (fateOf m v a ≡ f) ↔ IsFate (nextAt m a) (endOf m) v f
+  pub fate-told : {m : State} → Came m → (room : ℕ) (s : List ℕ) (v a : ℕ) → Asks m room s (fate v a) → stepOf m room s .answer ≡ Went (fateOf m v a)
+  pub reach-yes : {m : State} → Came m → (room : ℕ) (s : List ℕ) (v w : ℕ) → Asks m room s (reach v w) → (a : ℕ) → (stepOf m room s .answer ≡ Yes a) ↔ Lowest top (ComesTo m v w) a
+  pub reach-no : {m : State} → Came m → (room : ℕ) (s : List ℕ) (v w : ℕ) → Asks m room s (reach v w) → (stepOf m room s .answer ≡ No) ↔ ((a : ℕ) → a < top → ComesTo m v w a → ⊥)
+  pub tally-told : {m : State} → Came m → (room : ℕ) (s : List ℕ) (v : ℕ) → Asks m room s (tally v)
+      → stepOf m room s .answer ≡ Tally (countBelow top (λ a. isOut (fateOf m v a))) (countBelow top (λ a. isLost (fateOf m v a))) (countBelow top (λ a. isRound (fateOf m v a)))
+
+-- ---- demand 3
+
+-- two rules with the same prefix, length, priority and link
+pub record SameRule (v w : ℕ) : Type 0 where
+  pub prefix : lower v ≡ lower w
+  pub long : lengthOf v ≡ lengthOf w
+  pub priority : rank v ≡ rank w
+  pub link : linkOf v ≡ linkOf w
+
+-- two histories on the same closed hall and links that end with the same live rules
+pub record Twins (m n : State) : Type 0 where
+  pub came : Came m × Came n
+  pub closed : (m .phase ≡ 2) × (n .phase ≡ 2)
+  pub nodes : m .nodes ≡ n .nodes
+  pub links : m .links ≡ n .links
+  pub source : (l : ℕ) → l < m .links → sourceOf m l ≡ sourceOf n l
+  pub end : (l : ℕ) → l < m .links → endOf m l ≡ endOf n l
+  pub number : (i : ℕ) → i < 256 → live (ruleAt m i) ≡ live (ruleAt n i)
+  pub rule : (i : ℕ) → i < 256 → live (ruleAt m i) ≡ true → SameRule (ruleAt m i) (ruleAt n i)
 
 -- a change list has an entry over address a, from link x to link y, with 64 for none
 pub data Lists (a x y : ℕ) : List ℕ → Type 0 where
@@ -246,34 +251,27 @@ unfoldable pub since : State → List Call → State
 since m [] = m
 since m (c ∷ cs) = since (then m (c .room) (c .bytes)) cs
 
--- two neighbouring updates, on the bytes s and t, with different rule numbers, both accepted in either order
-pub record EitherOrder (m : State) (room room′ : ℕ) (s t : List ℕ) (i j : ℕ) : Type 0 where
-  pub came : Came m
-  pub apart : i ≡ j → ⊥
-  pub one : Accepts m room s i
-  pub two : Accepts (then m room s) room′ t j
-  pub one′ : Accepts m room′ t j
-  pub two′ : Accepts (then m room′ t) room s i
+-- x and y are left by two neighbouring updates with different rule numbers, on the bytes s and t, both accepted in either order
+pub data EitherOrder : State → State → Type 0 where
+  either : {m : State} (room room′ : ℕ) (s t : List ℕ) (i j : ℕ) → Came m → (i ≡ j → ⊥)
+      → Accepts m room s i → Accepts (then m room s) room′ t j → Accepts m room′ t j → Accepts (then m room′ t) room s i
+      → EitherOrder (then (then m room s) room′ t) (then (then m room′ t) room s)
 
 pub record Demand3 : Type 0 where
   -- "two histories on the same closed hall and links that end with the same live rules (number, prefix, length, priority, link)
   -- give every address at every node the same winner and fate"
-  pub same-winner : (m n : State) → Twins m n → (v a : ℕ) → winner m v a ≡ winner n v a
-  pub same-fate : (m n : State) → Twins m n → (v a : ℕ) → fateOf m v a ≡ fateOf n v a
+  pub same-winner : {m n : State} → Twins m n → (v a : ℕ) → winner m v a ≡ winner n v a
+  pub same-fate : {m n : State} → Twins m n → (v a : ℕ) → fateOf m v a ≡ fateOf n v a
   -- "and every loop, reach and tally question the same answer and witness"
-  pub same-answer : (m n : State) → Twins m n → (room : ℕ) (s : List ℕ) → isQuestion (recordOf s) ≡ true → stepOf m room s .answer ≡ stepOf n room s .answer
+  pub same-answer : {m n : State} → Twins m n → (room : ℕ) (s : List ℕ) → isQuestion (recordOf s) ≡ true → stepOf m room s .answer ≡ stepOf n room s .answer
   -- "An update that both then accept changes the same addresses, from and to the same links"
-  pub changes : (m : State) → Came m → (room : ℕ) (s : List ℕ) (i : ℕ) → Accepts m room s i
+  pub changes : {m : State} → Came m → (room : ℕ) (s : List ℕ) (i : ℕ) → Accepts m room s i
       → (a x y : ℕ) → Lists a x y (stepOf m room s .written) ↔ Changes m (then m room s) (nodeOf m (recordOf s)) a x y
-  pub same-changes : (m n : State) → Twins m n → (room room′ : ℕ) (s : List ℕ) (i : ℕ) → Accepts m room s i → Accepts n room′ s i
+  pub same-changes : {m n : State} → Twins m n → (room room′ : ℕ) (s : List ℕ) (i : ℕ) → Accepts m room s i → Accepts n room′ s i
       → (a x y : ℕ) → Lists a x y (stepOf m room s .written) ↔ Lists a x y (stepOf n room′ s .written)
   -- "Two neighbouring updates with different rule numbers, both accepted in either order": the same live rules,
-  pub same-rules : (m : State) (room room′ : ℕ) (s t : List ℕ) (i j : ℕ) → EitherOrder m room room′ s t i j
-      → Twins (then (then m room s) room′ t) (then (then m room′ t) room s)
+  pub same-rules : {x y : State} → EitherOrder x y → Twins x y
   -- "the cutting (the set of boundaries) is the same too"
-  pub same-cutting : (m : State) (room room′ : ℕ) (s t : List ℕ) (i j : ℕ) → EitherOrder m room room′ s t i j
-      → (then (then m room s) room′ t .atoms ≡ then (then m room′ t) room s .atoms) × (then (then m room s) room′ t .cut ≡ then (then m room′ t) room s .cut)
+  pub same-cutting : {x y : State} → EitherOrder x y → (x .atoms ≡ y .atoms) × (x .cut ≡ y .cut)
   -- "and every later update, with the same room lent, is accepted or refused alike, with the same number"
-  pub same-later : (m : State) (room room′ : ℕ) (s t : List ℕ) (i j : ℕ) → EitherOrder m room room′ s t i j
-      → (calls : List Call) (room″ : ℕ) (u : List ℕ)
-      → SameStep (stepOf (since (then (then m room s) room′ t) calls) room″ u) (stepOf (since (then (then m room′ t) room s) calls) room″ u)
+  pub same-later : {x y : State} → EitherOrder x y → (calls : List Call) (room : ℕ) (s : List ℕ) → SameStep (stepOf (since x calls) room s) (stepOf (since y calls) room s)

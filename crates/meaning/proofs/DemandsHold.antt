@@ -35,6 +35,7 @@ use Rattle.meaning.proofs.Exchange.{winner-same}
 use Rattle.meaning.proofs.Demands.{checks, Stands, Demand1, Names, GoesRound, ComesTo, Asks, Demand2, Demand3}
 use Rattle.meaning.proofs.Taking.{end-is, asked-passes, asked-is}
 use Rattle.meaning.proofs.Outcomes.{outcome, outcome-once}
+use Rattle.meaning.proofs.Standing.{in-force}
 use Rattle.meaning.proofs.Twins.{twin-rules, twin-links, fates-same, same-asked}
 use Rattle.meaning.proofs.Spread.{changes-listed, same-listed}
 use Rattle.meaning.proofs.Swapped.{swapped-twins, swapped-cutting, swapped-later}
@@ -112,40 +113,47 @@ module _ (m : State) (c : Came m) where
     unfolding byAddress asked
     fate-asked v a A = asked-is m room s (fate v a) A (unfold isQuestion in refl)
 
-    reach-asked : (v w : ℕ) → Asks m room s (reach v w)
-        → ((a : ℕ) → (stepOf m room s .answer ≡ Yes a) ↔ Lowest top (ComesTo m v w) a) × ((stepOf m room s .answer ≡ No) ↔ ((a : ℕ) → a < top → ComesTo m v w a → ⊥))
-    unfolding refusal
-    reach-asked v w A =
-        let q : isQuestion (reach v w) ≡ true = (unfold isQuestion in refl) in
-        let e = asked-is m room s (reach v w) A q in
-        let h : v < m .nodes = leb-false (m .nodes) v (when-none _ _ _ (asked-passes m room s (reach v w) A q) .0) in
-        (λ a. let y = reach-yes m c v w h a in (λ f. y .0 (sym e ∙ f), λ x. e ∙ y .1 x), (let y = reach-no m c v w h in (λ f. y .0 (sym e ∙ f), λ x. e ∙ y .1 x)))
+    module _ (v w : ℕ) (A : Asks m room s (reach v w)) where
+      reach-is : stepOf m room s .answer ≡ byAddress m (reach v w)
+      reach-is = asked-is m room s (reach v w) A (unfold isQuestion in refl)
+
+      from-node : v < m .nodes
+      unfolding refusal
+      from-node = leb-false (m .nodes) v (when-none _ _ _ (asked-passes m room s (reach v w) A (unfold isQuestion in refl)) .0)
+
+      reach-found : (a : ℕ) → (stepOf m room s .answer ≡ Yes a) ↔ Lowest top (ComesTo m v w) a
+      reach-found a = let y = reach-yes m c v w from-node a in (λ e. y .0 (sym reach-is ∙ e), λ x. reach-is ∙ y .1 x)
+
+      no-reach : (stepOf m room s .answer ≡ No) ↔ ((a : ℕ) → a < top → ComesTo m v w a → ⊥)
+      no-reach = let y = reach-no m c v w from-node in (λ e. y .0 (sym reach-is ∙ e), λ x. reach-is ∙ y .1 x)
 
 pub demand-2 : Demand2
 demand-2 = record {
-  covers = covered;
-  once = covered-once;
-  atoms = has-address;
-  labels = labelled;
-  reported = loop-found;
-  unreported = no-loop;
-  witness = loop-lowest;
-  way = next-names;
-  fate-is = fate-exact;
-  fate-told = fate-asked;
-  reach-told = reach-asked;
-  tally-told = λ m c room s v A. asked-is m room s (tally v) A (unfold isQuestion in refl) ∙ tally-counts m v;
+  rules = λ {m} c. in-force m c;
+  covers = λ {m} c. covered m c;
+  once = λ {m} c. covered-once m c;
+  atoms = λ {m} c. has-address m c;
+  labels = λ {m} c. labelled m c;
+  reported = λ {m} c. loop-found m c;
+  unreported = λ {m} c. no-loop m c;
+  witness = λ {m} c. loop-lowest m c;
+  way = λ {m} c. next-names m c;
+  fate-is = λ {m} c. fate-exact m c;
+  fate-told = λ {m} c. fate-asked m c;
+  reach-yes = λ {m} c. reach-found m c;
+  reach-no = λ {m} c. no-reach m c;
+  tally-told = λ {m} c room s v A. asked-is m room s (tally v) A (unfold isQuestion in refl) ∙ tally-counts m v;
 }
 
 -- ---- demand 3
 
 pub demand-3 : Demand3
 demand-3 = record {
-  same-winner = λ m n T. winner-same m n (twin-rules m n T) (twin-links m n T);
-  same-fate = λ m n T. fates-same m n (twin-rules m n T) (twin-links m n T) (T .nodes);
-  same-answer = same-asked;
-  changes = changes-listed;
-  same-changes = same-listed;
+  same-winner = λ {m} {n} T. winner-same m n (twin-rules m n T) (twin-links m n T);
+  same-fate = λ {m} {n} T. fates-same m n (twin-rules m n T) (twin-links m n T) (T .nodes);
+  same-answer = λ {m} {n} T. same-asked m n T;
+  changes = λ {m} c. changes-listed m c;
+  same-changes = λ {m} {n} T. same-listed m n T;
   same-rules = swapped-twins;
   same-cutting = swapped-cutting;
   same-later = swapped-later;

@@ -1,17 +1,28 @@
 -- The laws of document 01's definitions, by subject. Assumes nothing.
--- First the laws that a reader looks for, in the document's order:
+-- First the three demands, and that they hold:
+pub mod Demands
+pub mod DemandsHold
+-- then the laws that a reader looks for, in the document's order:
 pub mod Winners
+pub mod Standing
 pub mod Covering
 pub mod Boundaries
+pub mod Inner
 pub mod Numbering
 pub mod Updates
 pub mod Lists
+pub mod Spread
 pub mod Undone
 pub mod Fates
 pub mod Asked
+pub mod Twins
+pub mod Swapped
+pub mod Renumbered
 pub mod Refusals
+pub mod Outcomes
 pub mod Steps
 pub mod Stops
+pub mod Taking
 pub mod Said
 pub mod Listing
 pub mod Sides
@@ -48,12 +59,3 @@ pub mod Labelled
 pub mod Reading
 pub mod Splitting
 pub mod OneRule
-pub mod Demands
-pub mod Twins
-pub mod Taking
-pub mod Spread
-pub mod Renumbered
-pub mod Swapped
-pub mod Inner
-pub mod Outcomes
-pub mod DemandsHold

@@ -22,7 +22,7 @@ use Rattle.meaning.specs.Step.{Done, clashes, added, refusal, withRule, 
 use Rattle.meaning.proofs.Steps.{turnedBy}
 use Rattle.meaning.proofs.Demands.{then, SameEntries, empty, entry, SameStep, Call, since}
 use Rattle.meaning.proofs.Twins.{answers-same}
-use Rattle.meaning.proofs.Taking.{both-step}
+use Rattle.meaning.proofs.Taking.{Unmoved, both-step}
 use Rattle.meaning.proofs.Spread.{node-same}
 
 -- the state with other numbers
@@ -168,9 +168,9 @@ module _ (m : State) (numbers : List ℕ) (room : ℕ) (s : List ℕ) where
     left = rw (← same-leaves m numbers r) (alike-numbers (leaves m r) (leaves other r .number));
   }
 
-  same-only : (k : ℕ) (a : Answer) → Both (only m k a) (only other k a)
+  same-only : (k : ℕ) (a : Answer) → Unmoved a → Both (only m k a) (only other k a)
   unfolding only
-  same-only k a = record { step = record { answer = refl; passed = refl; list = empty }; left = alike-numbers m numbers }
+  same-only k a u = record { step = record { answer = refl; passed = refl; list = empty }; left = alike-numbers m numbers }
 
   step-renumbered : Both (stepOf m room s) (stepOf other room s)
   step-renumbered = both-step Both m other room s same-only (same-turned (recordOf s)) (λ k q. same-accepted k (recordOf s))

@@ -18,7 +18,7 @@ use Rattle.meaning.proofs.Places.{le-or-lt, cut-le}
 use Rattle.meaning.proofs.Sound.{Sound}
 use Rattle.meaning.proofs.Kept.{sound}
 use Rattle.meaning.proofs.Boundaries.{EndsAt, Ended, boundaries}
-use Rattle.meaning.proofs.Demands.{Twins, then, Accepts, Call, since, SameStep, EitherOrder}
+use Rattle.meaning.proofs.Demands.{Twins, then, Accepts, Call, since, SameStep, EitherOrder, either}
 use Rattle.meaning.proofs.Twins.{twins}
 use Rattle.meaning.proofs.Taking.{storedBy, Stores, stores, closed-hall}
 use Rattle.meaning.proofs.Renumbered.{Alike, alike-later}
@@ -58,7 +58,8 @@ same-cuts {top} {c} {d} {n} {k} C D f = (many, ext-getD 0 c d (C .long ∙ sym (
 
 -- ---- two updates
 
-module _ (m : State) (room room′ : ℕ) (s t : List ℕ) (i j : ℕ) (E : EitherOrder m room room′ s t i j) where
+module _ (m : State) (room room′ : ℕ) (s t : List ℕ) (i j : ℕ) (c : Came m) (apart : i ≡ j → ⊥)
+    (one : Accepts m room s i) (two : Accepts (then m room s) room′ t j) (one′ : Accepts m room′ t j) (two′ : Accepts (then m room′ t) room s i) where
   abbrev x : State
   x = then (then m room s) room′ t
 
@@ -66,18 +67,18 @@ module _ (m : State) (room room′ : ℕ) (s t : List ℕ) (i j : ℕ) (E : Eith
   y = then (then m room′ t) room s
 
   came-x : Came x
-  came-x = more room′ t (more room s (E .came))
+  came-x = more room′ t (more room s c)
 
   came-y : Came y
-  came-y = more room s (more room′ t (E .came))
+  came-y = more room s (more room′ t c)
 
-  pub swapped-rules : x .rule ≡ y .rule
+  swapped-rules : x .rule ≡ y .rule
   swapped-rules =
-      stores (then m room s) room′ t j (E .two) .rule
-      ∙ ap (λ (rs : List ℕ). set rs j (storedBy (recordOf t))) (stores m room s i (E .one) .rule)
-      ∙ set-comm (m .rule) i j (storedBy (recordOf s)) (storedBy (recordOf t)) (E .apart)
-      ∙ sym (ap (λ (rs : List ℕ). set rs i (storedBy (recordOf s))) (stores m room′ t j (E .one′) .rule))
-      ∙ sym (stores (then m room′ t) room s i (E .two′) .rule)
+      stores (then m room s) room′ t j two .rule
+      ∙ ap (λ (rs : List ℕ). set rs j (storedBy (recordOf t))) (stores m room s i one .rule)
+      ∙ set-comm (m .rule) i j (storedBy (recordOf s)) (storedBy (recordOf t)) apart
+      ∙ sym (ap (λ (rs : List ℕ). set rs i (storedBy (recordOf s))) (stores m room′ t j one′ .rule))
+      ∙ sym (stores (then m room′ t) room s i two′ .rule)
 
   -- an end that one step makes a boundary, the other does too
   moved : (o p : State) (room : ℕ) (u : List ℕ) (k : ℕ) → Accepts p room u k → (b : ℕ) → EndsAt o room u b → EndsAt p room u b
@@ -87,48 +88,57 @@ module _ (m : State) (room room′ : ℕ) (s t : List ℕ) (i j : ℕ) (E : Eith
   unfolding Ended came-x came-y
   same-boundary b = (λ h. boundaries y came-y b .1 (there (boundaries x came-x b .0 h)), λ h. boundaries x came-x b .1 (back (boundaries y came-y b .0 h)))
     where
-      there : ((b ≡ 0) ⊎ (b ≡ top)) ⊎ ((Ended (E .came) b ⊎ EndsAt m room s b) ⊎ EndsAt (then m room s) room′ t b)
-          → ((b ≡ 0) ⊎ (b ≡ top)) ⊎ ((Ended (E .came) b ⊎ EndsAt m room′ t b) ⊎ EndsAt (then m room′ t) room s b)
+      there : ((b ≡ 0) ⊎ (b ≡ top)) ⊎ ((Ended c b ⊎ EndsAt m room s b) ⊎ EndsAt (then m room s) room′ t b)
+          → ((b ≡ 0) ⊎ (b ≡ top)) ⊎ ((Ended c b ⊎ EndsAt m room′ t b) ⊎ EndsAt (then m room′ t) room s b)
       there (inl h) = inl h
       there (inr (inl (inl h))) = inr (inl (inl h))
-      there (inr (inl (inr h))) = inr (inr (moved _ _ room s i (E .two′) b h))
-      there (inr (inr h)) = inr (inl (inr (moved _ _ room′ t j (E .one′) b h)))
+      there (inr (inl (inr h))) = inr (inr (moved _ _ room s i two′ b h))
+      there (inr (inr h)) = inr (inl (inr (moved _ _ room′ t j one′ b h)))
 
-      back : ((b ≡ 0) ⊎ (b ≡ top)) ⊎ ((Ended (E .came) b ⊎ EndsAt m room′ t b) ⊎ EndsAt (then m room′ t) room s b)
-          → ((b ≡ 0) ⊎ (b ≡ top)) ⊎ ((Ended (E .came) b ⊎ EndsAt m room s b) ⊎ EndsAt (then m room s) room′ t b)
+      back : ((b ≡ 0) ⊎ (b ≡ top)) ⊎ ((Ended c b ⊎ EndsAt m room′ t b) ⊎ EndsAt (then m room′ t) room s b)
+          → ((b ≡ 0) ⊎ (b ≡ top)) ⊎ ((Ended c b ⊎ EndsAt m room s b) ⊎ EndsAt (then m room s) room′ t b)
       back (inl h) = inl h
       back (inr (inl (inl h))) = inr (inl (inl h))
-      back (inr (inl (inr h))) = inr (inr (moved _ _ room′ t j (E .two) b h))
-      back (inr (inr h)) = inr (inl (inr (moved _ _ room s i (E .one) b h)))
+      back (inr (inl (inr h))) = inr (inr (moved _ _ room′ t j two b h))
+      back (inr (inr h)) = inr (inl (inr (moved _ _ room s i one b h)))
 
   -- THE LAW: the cutting is the same
-  pub swapped-cutting : (x .atoms ≡ y .atoms) × (x .cut ≡ y .cut)
-  swapped-cutting = same-cuts (sound x came-x .cuts) (sound y came-y .cuts) same-boundary
+  same-cutting : (x .atoms ≡ y .atoms) × (x .cut ≡ y .cut)
+  same-cutting = same-cuts (sound x came-x .cuts) (sound y came-y .cuts) same-boundary
 
   -- what neither of two updates touches
   kept : {A : Type 0} (f : State → A) → ((o p : State) (k w : ℕ) → Stores o p k w → f p ≡ f o) → f x ≡ f y
   kept f h =
-      h _ _ _ _ (stores _ room′ t j (E .two)) ∙ h _ _ _ _ (stores _ room s i (E .one))
-      ∙ sym (h _ _ _ _ (stores _ room′ t j (E .one′))) ∙ sym (h _ _ _ _ (stores _ room s i (E .two′)))
+      h _ _ _ _ (stores _ room′ t j two) ∙ h _ _ _ _ (stores _ room s i one)
+      ∙ sym (h _ _ _ _ (stores _ room′ t j one′)) ∙ sym (h _ _ _ _ (stores _ room s i two′))
 
-  pub swapped-alike : Alike x y
-  swapped-alike = record {
+  same-alike : Alike x y
+  same-alike = record {
     phase = kept (λ o. o .phase) (λ o p k w S. S .phase);
     nodes = kept (λ o. o .nodes) (λ o p k w S. S .nodes);
     links = kept (λ o. o .links) (λ o p k w S. S .links);
-    atoms = swapped-cutting .0;
+    atoms = same-cutting .0;
     link = kept (λ o. o .link) (λ o p k w S. S .link);
     rule = swapped-rules;
-    cut = swapped-cutting .1;
+    cut = same-cutting .1;
   }
 
   -- so the two histories end with the same live rules,
-  pub swapped-twins : Twins x y
-  swapped-twins =
-      let A = swapped-alike in
-      let ph : x .phase ≡ 2 = stores _ room′ t j (E .two) .phase ∙ closed-hall _ room′ t j (E .two) in
+  same-twins : Twins x y
+  same-twins =
+      let A = same-alike in
+      let ph : x .phase ≡ 2 = stores _ room′ t j two .phase ∙ closed-hall _ room′ t j two in
       twins x y came-x came-y ph (sym (A .phase) ∙ ph) (A .nodes) (A .links) (A .link) (A .rule)
 
-  -- THE LAW: and every later step is taken alike
-  pub swapped-later : (calls : List Call) (room″ : ℕ) (u : List ℕ) → SameStep (stepOf (since x calls) room″ u) (stepOf (since y calls) room″ u)
-  swapped-later = alike-later x y swapped-alike
+pub swapped-twins : {x y : State} → EitherOrder x y → Twins x y
+swapped-twins (either room room′ s t i j c a one two one′ two′) = same-twins _ room room′ s t i j c a one two one′ two′
+
+pub swapped-cutting : {x y : State} → EitherOrder x y → (x .atoms ≡ y .atoms) × (x .cut ≡ y .cut)
+swapped-cutting (either room room′ s t i j c a one two one′ two′) = same-cutting _ room room′ s t i j c a one two one′ two′
+
+swapped-alike : {x y : State} → EitherOrder x y → Alike x y
+swapped-alike (either room room′ s t i j c a one two one′ two′) = same-alike _ room room′ s t i j c a one two one′ two′
+
+-- THE LAW: every later step is taken alike
+pub swapped-later : {x y : State} → EitherOrder x y → (calls : List Call) (room : ℕ) (s : List ℕ) → SameStep (stepOf (since x calls) room s) (stepOf (since y calls) room s)
+swapped-later {x} {y} E = alike-later x y (swapped-alike E)

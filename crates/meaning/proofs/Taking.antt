@@ -56,9 +56,14 @@ by-update P i f g (tally v) e = let z : _≡_ {A = ℕ} 0 1 = cc in absurd (omeg
 
 -- ---- two states side by side
 
+-- the answers of a step that leaves all as it was before a record is taken
+pub data Unmoved : Answer → Type 0 where
+  no-byte : Unmoved End
+  refused : (k : ℕ) → Unmoved (Refused k)
+
 -- where a record is turned away alike, what holds of both refusals and of both acceptances holds of both steps
 module _ (R : Done → Done → Type 0) (m n : State) (room : ℕ) (s : List ℕ) where
-  pub both-step : ((k : ℕ) (a : Answer) → R (only m k a) (only n k a)) → turnedBy m (recordOf s) ≡ turnedBy n (recordOf s)
+  pub both-step : ((k : ℕ) (a : Answer) → Unmoved a → R (only m k a) (only n k a)) → turnedBy m (recordOf s) ≡ turnedBy n (recordOf s)
       → ((k : ℕ) → turnedBy n (recordOf s) ≡ none → R (accepted (byAddress m) m k (recordOf s)) (accepted (byAddress n) n k (recordOf s))) → R (stepOf m room s) (stepOf n room s)
   unfolding stepOf stepBy taken
   both-step f e g = rw e (go (ltb room 2560) (eqb (length s) 0) (not (isKind (getD s 0 0))) (ltb (length s) (1 + bodyOf (getD s 0 0))))
@@ -67,16 +72,16 @@ module _ (R : Done → Done → Type 0) (m n : State) (room : ℕ) (s : List ℕ
       k = 1 + bodyOf (getD s 0 0)
 
       last : (o : Option ℕ) → turnedBy n (recordOf s) ≡ o → R (taken (byAddress m) m k (recordOf s) o) (taken (byAddress n) n k (recordOf s) o)
-      last (some j) q = f k (Refused j)
+      last (some j) q = f k (Refused j) (refused j)
       last none q = g k q
 
       go : (a b c d : Bool)
           → R (pick a (only m 0 (Refused 0)) (pick b (only m 0 End) (pick c (only m 0 (Refused 1)) (pick d (only m 0 (Refused 2)) (taken (byAddress m) m k (recordOf s) (turnedBy n (recordOf s)))))))
           (pick a (only n 0 (Refused 0)) (pick b (only n 0 End) (pick c (only n 0 (Refused 1)) (pick d (only n 0 (Refused 2)) (taken (byAddress n) n k (recordOf s) (turnedBy n (recordOf s)))))))
-      go true b c d = f 0 (Refused 0)
-      go false true c d = f 0 End
-      go false false true d = f 0 (Refused 1)
-      go false false false true = f 0 (Refused 2)
+      go true b c d = f 0 (Refused 0) (refused 0)
+      go false true c d = f 0 End no-byte
+      go false false true d = f 0 (Refused 1) (refused 1)
+      go false false false true = f 0 (Refused 2) (refused 2)
       go false false false false = last _ refl
 
 -- ---- "end"
@@ -105,37 +110,26 @@ end-is m room s = (λ e. go _ (stepped _ m room s) refl e, λ h. rw (le-ltb room
 
 -- ---- an accepted record
 
--- it passed every check, and the step is that of the record
-pub record Took (m : State) (room : ℕ) (s : List ℕ) : Type 0 where
+-- it passed every check, and the step d is that of the record
+pub record Took (m : State) (s : List ℕ) (d : Done) : Type 0 where
   pub bytes : ℕ
   pub phase : m .phase ≡ phaseOf (recordOf s)
   pub passes : refusal m (recordOf s) ≡ none
-  pub is : stepOf m room s ≡ accepted (byAddress m) m bytes (recordOf s)
+  pub is : d ≡ accepted (byAddress m) m bytes (recordOf s)
 
 module _ (m : State) (room : ℕ) (s : List ℕ) where
   -- what is neither refused nor "end" is accepted
-  pub accepts : refusedBy (stepOf m room s .answer) ≡ none → (stepOf m room s .answer ≡ End → ⊥) → Took m room s
-  unfolding stepOf stepBy taken only refusedBy
-  accepts = go (ltb room 2560) (eqb (length s) 0) (not (isKind (getD s 0 0))) (ltb (length s) (1 + bodyOf (getD s 0 0))) refl
+  pub accepts : refusedBy (stepOf m room s .answer) ≡ none → (stepOf m room s .answer ≡ End → ⊥) → Took m s (stepOf m room s)
+  unfolding only refusedBy
+  accepts = both-step (λ d e. refusedBy (d .answer) ≡ none → (d .answer ≡ End → ⊥) → Took m s d) m m room s unmoved refl passed
     where
-      k : ℕ
-      k = 1 + bodyOf (getD s 0 0)
+      unmoved : (k : ℕ) (a : Answer) → Unmoved a → refusedBy a ≡ none → (a ≡ End → ⊥) → Took m s (only m k a)
+      unmoved k a no-byte e f = absurd (f refl)
+      unmoved k a (refused j) e f = let z : _≡_ {A = ℕ} 0 1 = cc in absurd (omega arith)
 
-      last : (o : Option ℕ) → turnedBy m (recordOf s) ≡ o → stepBy (byAddress m) m room s ≡ taken (byAddress m) m k (recordOf s) o
-          → refusedBy (taken (byAddress m) m k (recordOf s) o .answer) ≡ none → Took m room s
-      last (some j) q is e = let z : _≡_ {A = ℕ} 0 1 = cc in absurd (omega arith)
-      last none q is e = let y = when-none _ _ _ q in record { bytes = k; phase = eqb-true _ _ (not-false _ (y .0)); passes = y .1; is = is }
-
-      go : (a b c d : Bool)
-          → stepBy (byAddress m) m room s ≡ pick a (only m 0 (Refused 0)) (pick b (only m 0 End) (pick c (only m 0 (Refused 1)) (pick d (only m 0 (Refused 2)) (taken (byAddress m) m k (recordOf s) (turnedBy m (recordOf s))))))
-          → refusedBy (pick a (only m 0 (Refused 0)) (pick b (only m 0 End) (pick c (only m 0 (Refused 1)) (pick d (only m 0 (Refused 2)) (taken (byAddress m) m k (recordOf s) (turnedBy m (recordOf s)))))) .answer) ≡ none
-          → (pick a (only m 0 (Refused 0)) (pick b (only m 0 End) (pick c (only m 0 (Refused 1)) (pick d (only m 0 (Refused 2)) (taken (byAddress m) m k (recordOf s) (turnedBy m (recordOf s)))))) .answer ≡ End → ⊥)
-          → Took m room s
-      go true b c d is e f = let z : _≡_ {A = ℕ} 0 1 = cc in absurd (omega arith)
-      go false true c d is e f = absurd (f refl)
-      go false false true d is e f = let z : _≡_ {A = ℕ} 0 1 = cc in absurd (omega arith)
-      go false false false true is e f = let z : _≡_ {A = ℕ} 0 1 = cc in absurd (omega arith)
-      go false false false false is e f = last _ refl is e
+      passed : (k : ℕ) → turnedBy m (recordOf s) ≡ none → refusedBy (accepted (byAddress m) m k (recordOf s) .answer) ≡ none
+          → (accepted (byAddress m) m k (recordOf s) .answer ≡ End → ⊥) → Took m s (accepted (byAddress m) m k (recordOf s))
+      passed k q e f = let y = when-none _ _ _ q in record { bytes = k; phase = eqb-true _ _ (not-false _ (y .0)); passes = y .1; is = refl }
 
 -- ---- a question that is not refused
 
@@ -145,7 +139,7 @@ empty-close [] e = refl
 empty-close (x ∷ s) e = absurd (omega arith)
 
 module _ (m : State) (room : ℕ) (s : List ℕ) (r : Record) (A : Asks m room s r) (q : isQuestion r ≡ true) where
-  took-question : Took m room s
+  took-question : Took m s (stepOf m room s)
   took-question = accepts m room s (A .taken) (λ e. true≢false (sym q ∙ ap isQuestion (sym (A .record-is) ∙ empty-close s (end-is m room s .0 e .1)) ∙ (unfold isQuestion in refl)))
 
   pub asked-passes : refusal m r ≡ none
@@ -161,7 +155,7 @@ module _ (m : State) (room : ℕ) (s : List ℕ) (r : Record) (A : Asks m room s
 -- ---- an accepted insert or remove
 
 module _ (m : State) (room : ℕ) (s : List ℕ) (i : ℕ) (A : Accepts m room s i) where
-  pub took-it : Took m room s
+  pub took-it : Took m s (stepOf m room s)
   took-it = accepts m room s (ap refusedBy (A .ok) ∙ (unfold refusedBy in refl)) (λ e. let z : _≡_ {A = ℕ} 0 1 = cc (A .ok) in omega arith)
 
   pub left-is : then m room s ≡ leaves m (recordOf s)

@@ -180,4 +180,4 @@ module _ (m n : State) (T : Twins m n) where
   -- THE LAW: every question has the same answer and witness
   pub same-asked : (room : ℕ) (s : List ℕ) → isQuestion (recordOf s) ≡ true → stepOf m room s .answer ≡ stepOf n room s .answer
   same-asked room s e =
-      both-step (λ d e. d .answer ≡ e .answer) m n room s (λ k a. unfold only in refl) (same-turned (recordOf s) e) (λ k q. same-reply k (recordOf s) e)
+      both-step (λ d e. d .answer ≡ e .answer) m n room s (λ k a u. unfold only in refl) (same-turned (recordOf s) e) (λ k q. same-reply k (recordOf s) e)
