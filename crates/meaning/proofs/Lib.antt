@@ -24,6 +24,7 @@ pub mod Steps
 pub mod Stops
 pub mod Taking
 pub mod Said
+pub mod Once
 pub mod Listing
 pub mod Sides
 -- and then what they stand on, and what the code's proofs cite
