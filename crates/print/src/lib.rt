@@ -2,6 +2,5 @@
 mod line;
 mod number;
 
-
 // The most bytes that a line has: each function here asks for so much room.
 pub const ROOM: usize = 128;

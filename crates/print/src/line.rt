@@ -104,7 +104,15 @@ pub fn put_line(buf: &mut [u8], at: usize, place: u64, answer: Answer) -> usize
 }
 
 // The line of an entry of a change list.
-pub fn put_change(buf: &mut [u8], at: usize, atom: u64, lower: u64, upper: u64, old: u64, new: u64) -> usize
+pub fn put_change(
+    buf: &mut [u8],
+    at: usize,
+    atom: u64,
+    lower: u64,
+    upper: u64,
+    old: u64,
+    new: u64,
+) -> usize
     requires { ⌜ at + 128 ≤ length (now buf) ⌝ }
     ensures { λ r. ⌜ Wrote 128 (change atom lower upper old new) (now (buf .entry)) (now (buf .exit)) at r ⌝ }
 {

@@ -1,4 +1,12 @@
+-- `print::line::put_fate` meets its contract. Assumes nothing.
 use borrow.Author.Needs.{needs}
+use mathlib.Core.Path.{sym, ap}
+use native.Mathlib.Omega.{arith}
+use Rattle.meaning.specs.declared.Fate.{Fate}
+use Rattle.meaning.specs.declared.Answer.the-variants.{Went}
+use Rattle.meaning.specs.Answers.{said, saidFate}
+use Rattle.print.specs.Lines.{line, word, values}
+use Rattle.print.proofs.Writes.{also}
 use Rattle.print.proofs.line.put_fate.Statement.{statement}
 use Rattle.print.proofs.line.put_fate.Tie as tie
 use Rattle.print.proofs.line.put_fate.Reads as reads
@@ -6,81 +14,74 @@ use Rattle.print.proofs.line.put_fate.Lts as lts
 use Rattle.print.proofs.line.put_start.Reads as put-start-reads
 use Rattle.print.proofs.line.put_two.Reads as put-two-reads
 
--- src/line.rt:81:19
 enum-known-fate : tie.Need-enum-known-fate
 enum-known-fate c = search needs
 
--- src/line.rt:81:58
 slice-aggregate-put-two : tie.Need-slice-aggregate-put-two
 slice-aggregate-put-two c = search needs
 
--- src/line.rt:81:68
 cast-put-two : tie.Need-cast-put-two
 cast-put-two c = search needs
 
--- src/line.rt:81:81
 cast-put-two-2 : tie.Need-cast-put-two-2
 cast-put-two-2 c = search needs
 
--- src/line.rt:81:34
 put-two-requires : tie.Need-put-two-requires
 put-two-requires c κs = search needs
 
--- src/line.rt:82:20
 enum-known-fate-2 : tie.Need-enum-known-fate-2
 enum-known-fate-2 c = search needs
 
--- src/line.rt:82:59
 slice-aggregate-put-two-2 : tie.Need-slice-aggregate-put-two-2
 slice-aggregate-put-two-2 c = search needs
 
--- src/line.rt:82:70
 cast-put-two-3 : tie.Need-cast-put-two-3
 cast-put-two-3 c = search needs
 
--- src/line.rt:82:83
 cast-put-two-4 : tie.Need-cast-put-two-4
 cast-put-two-4 c = search needs
 
--- src/line.rt:82:35
 put-two-requires-2 : tie.Need-put-two-requires-2
 put-two-requires-2 c κs = search needs
 
--- src/line.rt:83:34
 enum-told : tie.Need-enum-told
 enum-told c = search needs
 
--- src/line.rt:83:50
 slice-aggregate-put-start : tie.Need-slice-aggregate-put-start
 slice-aggregate-put-start c = search needs
 
--- src/line.rt:83:24
 put-start-requires : tie.Need-put-start-requires
 put-start-requires c κs = search needs
 
--- src/line.rt:76:1
 same-length : tie.Need-same-length
 same-length c = search needs
 
--- src/line.rt:76:1
 returns : tie.Need-returns
-returns c = search needs
+unfolding line word values said saidFate
+returns c =
+    let d = c .before .before in
+    let a = d .before .before .before .before .before .before .before .args in
+    also (sym (ap (λ (f : Fate). line (a .place) (Went f)) (d .before .before .before .before .fate .given .1))) (omega arith) (d .put-two .ensures)
 
--- src/line.rt:76:1
 same-length-2 : tie.Need-same-length-2
 same-length-2 c = search needs
 
--- src/line.rt:76:1
 returns-2 : tie.Need-returns-2
-returns-2 c = search needs
+unfolding line word values said saidFate
+returns-2 c =
+    let d = c .before .before in
+    let a = d .before .before .before .before .before .before .before .args in
+    also (sym (ap (λ (f : Fate). line (a .place) (Went f)) (d .before .before .before .before .fate2 .given .1))) (omega arith) (d .put-two2 .ensures)
 
--- src/line.rt:76:1
 same-length-3 : tie.Need-same-length-3
 same-length-3 c = search needs
 
--- src/line.rt:76:1
 returns-3 : tie.Need-returns-3
-returns-3 c = search needs
+unfolding line word values said saidFate
+returns-3 c =
+    let d = c .before .before in
+    let a = d .before .before .before .before .before .before .args in
+    also (sym (ap (λ (f : Fate). line (a .place) (Went f)) (d .before .before .before .enum-told .given .1))) (omega arith) (d .put-start .ensures)
 
 pub put-fate-spec : {M : Type 1} → statement M
 put-fate-spec =
