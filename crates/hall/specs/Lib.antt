@@ -3,3 +3,6 @@ pub mod Bits
 pub mod Gathered
 pub mod Rows
 pub mod Sweep
+pub mod Moves
+pub mod Kinds
+pub mod Tallied

@@ -1,9 +1,18 @@
 // The box: it reads records, keeps rules, atoms and labels in lent tables, and answers.
+mod ask;
 mod atom;
 mod label;
 mod link;
+mod record;
 mod rule;
+mod run;
+mod step;
 mod update;
+mod walk;
 
 pub use label::atoms_on;
 pub use label::lowest_on;
+pub use record::read_record;
+pub use run::clear_box;
+pub use run::run_stream;
+pub use step::take_record;

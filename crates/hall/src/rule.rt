@@ -65,8 +65,7 @@ pub fn stands_at(link: &[u16; 64], v: usize, x: u64) -> bool
     if x == 0 {
         return false;
     }
-    let word = link[link_of(x)];
-    (word / 1024) as usize == v
+    crate::link::source_of(link[link_of(x)]) == v
 }
 
 // Whether x and w cover an address both.
@@ -116,13 +115,14 @@ pub fn gather(
 ) -> usize
     ensures { λ r. ⌜ Gathers (now (link .entry)) (now (rule .entry)) v w (now (among .exit)) r ⌝ }
 {
+    let numbers: &mut [u16] = among;
     let mut count: usize = 0;
     let mut i: usize = 0;
     while i < 256 {
         let x = rule[i];
         if stands_at(link, v, x) {
             if overlaps(x, w) {
-                among[count] = i as u16;
+                numbers[count] = i as u16;
                 count += 1;
             }
         }

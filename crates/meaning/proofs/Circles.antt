@@ -14,7 +14,7 @@ module _ (next : ℕ → Option ℕ) (end : ℕ → ℕ) where
   on p m k t w e f = rw (← e, after-add, f)
 
   -- the moves of a circle lead back from each of its places
-  round-again : (c p m u : ℕ) → after next end p (at c) ≡ at c → after next end m (at c) ≡ at u → after next end p (at u) ≡ at u
+  pub round-again : (c p m u : ℕ) → after next end p (at c) ≡ at c → after next end m (at c) ≡ at u → after next end p (at u) ≡ at u
   round-again c p m u e f = sym (on (at c) m p (m + p) u refl f) ∙ on (at c) p m (m + p) c (omega arith) e ∙ f
 
   -- a node of a circle is come to again after m moves or more

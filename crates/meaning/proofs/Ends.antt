@@ -1,59 +1,30 @@
 -- The fresh labels, the length of a lent list, and that a run comes to its end. Assumes nothing.
-use mathlib.Core.Path.{_≡_, refl, sym, ap, ap₂, _∙_}
-use mathlib.Core.Bool.{Bool, true, false, not, _&&_, _||_}
+use mathlib.Core.Path.{_≡_, refl}
+use mathlib.Core.Bool.{Bool, true, false, not}
 use mathlib.Core.Option.{Option, none, some}
-use mathlib.Core.List.{List, [], _∷_, _++_}
-use Prim.Native.Nat.{ℕ, zero, suc, _+_, _-_, _*_, _/_, _%_, _≤_, _<_}
+use mathlib.Core.List.{List, [], _∷_}
+use Prim.Native.Nat.{ℕ, zero, suc, _+_, _-_, _*_, _≤_, _<_}
 use native.Mathlib.Omega.{arith}
-use native.Mathlib.Numerals.{add-one}
-use lib.Dec.{leb, ltb, eqb}
-use lib.ListN.{length, getD, drop, length-append, length-drop, length-replicate, getD-replicate}
-use lib.Seq.{ext-getD}
+use lib.Dec.{ltb, eqb}
+use lib.ListN.{length, getD, drop, length-append, length-drop}
 use borrow.Author.Tests.{ltb-false}
 use Rattle.meaning.specs.declared.Answer.{Answer}
 use Rattle.meaning.specs.declared.Answer.the-variants.{End, Refused}
-use Rattle.meaning.specs.Search.{pick, anyBelow, tabulate}
-use Rattle.meaning.specs.Hall.{zeroes, State, fresh, sourceOf}
-use Rattle.meaning.specs.Rule.{live}
-use Rattle.meaning.specs.Winner.{better, best, ruleAt, eligible, winner, linkFor, nextAt}
-use Rattle.meaning.specs.Labels.{names, isOn, wordOf, labelsOf}
+use Rattle.meaning.specs.Search.{pick}
+use Rattle.meaning.specs.Hall.{zeroes, State, fresh}
+use Rattle.meaning.specs.Labels.{labelsOf}
 use Rattle.meaning.specs.Changes.{changedAt, changedPlaces, entryAt, entriesAt, overwrite}
 use Rattle.meaning.specs.declared.Record.{Record}
 use Rattle.meaning.specs.Records.{isKind, bodyOf, recordOf, phaseOf}
-use Rattle.meaning.specs.Step.{Done, when, refusal, only, accepted, taken, stepBy, stepOf}
-use Rattle.meaning.specs.Run.{Ran, onward, runFrom, runOf}
-use Rattle.meaning.proofs.Members.{tab-length, tab-at}
+use Rattle.meaning.specs.Step.{Done, when, refusal, only, accepted, taken, stepBy}
+use Rattle.meaning.specs.Run.{Ran, onward, runFrom}
+use Rattle.meaning.proofs.Sound.{fresh-sound}
+use Rattle.meaning.proofs.Idle.{labels-idle}
 
 -- ---- the fresh labels are empty
 
-fresh-next : (a v : ℕ) → nextAt fresh a v ≡ none
-unfolding nextAt linkFor winner best better eligible live ruleAt fresh
-fresh-next a v = refl
-
-any-off : (P : ℕ → Bool) (n : ℕ) → ((i : ℕ) → P i ≡ false) → anyBelow n P ≡ false
-unfolding anyBelow
-any-off P zero h = refl
-any-off P (suc n) h = rw (any-off P n h, h n)
-
-fresh-on : (l k : ℕ) → isOn fresh l k ≡ false
-unfolding isOn names
-fresh-on l k = any-off _ (fresh .atoms) (λ p. rw fresh-next (off (eqb (getD (fresh .number) p 0) k)))
-  where
-    off : (b : Bool) → (b && false) ≡ false
-    off true = refl
-    off false = refl
-
-word-none : (n : ℕ) (f : ℕ → Bool) → ((j : ℕ) → f j ≡ false) → wordOf n f ≡ 0
-unfolding wordOf
-word-none zero f h = refl
-word-none (suc n) f h = rw (h 0, word-none n (λ j. f (suc j)) (λ j. h (suc j)))
-
 pub fresh-labels : labelsOf fresh ≡ zeroes 512
-unfolding labelsOf
-fresh-labels =
-    ext-getD 0 _ _ (tab-length 512 0 _ ∙ sym (length-replicate {A = ℕ} 512 0))
-    (λ i h. let g : i < 512 = omega (arith, tab-length 512 0 (λ i. wordOf 64 (λ j. isOn fresh (i / 8) (64 * (i % 8) + j)))) in
-    tab-at 512 0 _ i g ∙ word-none 64 _ (λ j. fresh-on _ _) ∙ sym (getD-replicate {A = ℕ} 512 i 0 0 g))
+fresh-labels = labels-idle fresh (fresh-sound .idle (unfold fresh in omega arith))
 
 -- ---- a lent list keeps its length
 

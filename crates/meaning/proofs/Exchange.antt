@@ -29,7 +29,7 @@ use Rattle.meaning.proofs.Members.{any-true, any-some}
 use Rattle.meaning.proofs.Walks.{Going, Closed, Reaches, going-le, again, meets}
 use Rattle.meaning.proofs.Means.{stands-at, at-stands}
 
-eqb-comm : (a b : ℕ) → eqb a b ≡ eqb b a
+pub eqb-comm : (a b : ℕ) → eqb a b ≡ eqb b a
 eqb-comm a b = go (ℕ-discrete a b)
   where
     go : Dec (a ≡ b) → eqb a b ≡ eqb b a
@@ -61,11 +61,11 @@ module _ (m : State) (S : Sound m) (r l p n t : ℕ) (F : Sized l p t) (C : Clea
   unfolding live ruleAt
   free-zero = eqb-true _ 0 (not-false _ (C .free))
 
-  rules-back : back .rule ≡ m .rule
+  pub rules-back : back .rule ≡ m .rule
   unfolding withRule inserted withCut
   rules-back = set-set (m .rule) r w 0 ∙ ap (set (m .rule) r) (sym free-zero) ∙ set-getD (m .rule) r 0
 
-  links-back : back .link ≡ m .link
+  pub links-back : back .link ≡ m .link
   unfolding withRule inserted withCut
   links-back = refl
 
@@ -84,7 +84,7 @@ module _ (m : State) (S : Sound m) (r l p n t : ℕ) (F : Sized l p t) (C : Clea
   unfolding ruleAt inserted withRule withCut
   rule-there = getD-set-same (m .rule) r w 0 (omega (arith, S .rules, C .number))
 
-  node-there : sourceOf there (linkOf (ruleAt there r)) ≡ sourceOf m l
+  pub node-there : sourceOf there (linkOf (ruleAt there r)) ≡ sourceOf m l
   unfolding sourceOf
   node-there =
       rw rule-there (ap (λ (x : ℕ). getD (there .link) x 0 / 1024) (link-of l p n t (omega (arith, C .declared, S .few)) (F .prefix) (C .long) (F .priority)) ∙ (unfold inserted withRule withCut in refl))

@@ -219,7 +219,7 @@ clear m r l p n t ok =
 
 -- a state with b made a boundary
 module _ (m : State) (S : Sound m) (b : ℕ) (bt : b ≤ top) (room : isCut (m .cut) (m .atoms) b ≡ false → m .atoms < 512) where
-  keeps-cut : Sound (withCut m b)
+  pub keeps-cut : Sound (withCut m b)
   unfolding withCut ruleAt sourceOf endOf
   keeps-cut = record {
     cuts = split-cuts top (m .cut) (m .atoms) b (S .cuts) bt room;
@@ -300,16 +300,16 @@ module _ (m : State) (S : Sound m) (r w : ℕ) (hr : r < 256) (ph : m .phase ≡
   }
 
 module _ (m : State) (S : Sound m) (r l p n t : ℕ) (F : Sized l p t) (ph : m .phase ≡ 2) (C : Clear m r l p n t) where
-  abbrev word : ℕ
+  abbrev pub word : ℕ
   word = ruleWord l p n t
 
   hl : l < 64
   hl = omega (arith, C .declared, S .few)
 
-  lower-top : lower word ≤ top
+  pub lower-top : lower word ≤ top
   lower-top = omega (arith, lower-of l p n t hl (F .prefix) (C .long) (F .priority), F .prefix)
 
-  upper-top : upper word ≤ top
+  pub upper-top : upper word ≤ top
   upper-top = omega (arith, upper-of l p n t hl (F .prefix) (C .long) (F .priority), within-top p n (F .prefix) (C .long) (C .flush))
 
   -- there is room for both ends
@@ -317,14 +317,14 @@ module _ (m : State) (S : Sound m) (r l p n t : ℕ) (F : Sized l p t) (ph : m .
   unfolding added
   room-both = C .room
 
-  room-lower : isCut (m .cut) (m .atoms) (lower word) ≡ false → m .atoms < 512
+  pub room-lower : isCut (m .cut) (m .atoms) (lower word) ≡ false → m .atoms < 512
   room-lower e = omega (arith, rw e at room-both)
 
-  S₁ : Sound (withCut m (lower word))
+  pub S₁ : Sound (withCut m (lower word))
   S₁ = keeps-cut m S (lower word) lower-top room-lower
 
   -- what was a boundary still is, so one that is missing now was missing
-  missing : isCut (withCut m (lower word) .cut) (withCut m (lower word) .atoms) (upper word) ≡ false → isCut (m .cut) (m .atoms) (upper word) ≡ false
+  pub missing : isCut (withCut m (lower word) .cut) (withCut m (lower word) .atoms) (upper word) ≡ false → isCut (m .cut) (m .atoms) (upper word) ≡ false
   missing e = go (isCut (m .cut) (m .atoms) (upper word)) refl
     where
       go : (x : Bool) → isCut (m .cut) (m .atoms) (upper word) ≡ x → x ≡ false
@@ -334,11 +334,11 @@ module _ (m : State) (S : Sound m) (r l p n t : ℕ) (F : Sized l p t) (ph : m .
           ∙ e))
       go false f = refl
 
-  count₁ : withCut m (lower word) .atoms ≡ m .atoms + pick (isCut (m .cut) (m .atoms) (lower word)) 0 1
+  pub count₁ : withCut m (lower word) .atoms ≡ m .atoms + pick (isCut (m .cut) (m .atoms) (lower word)) 0 1
   unfolding withCut
   count₁ = split-count top (m .cut) (m .atoms) (lower word) (S .cuts) lower-top room-lower
 
-  room-upper : isCut (withCut m (lower word) .cut) (withCut m (lower word) .atoms) (upper word) ≡ false → withCut m (lower word) .atoms < 512
+  pub room-upper : isCut (withCut m (lower word) .cut) (withCut m (lower word) .atoms) (upper word) ≡ false → withCut m (lower word) .atoms < 512
   room-upper e = omega (arith, rw (missing e) at room-both, count₁)
 
   keeps-insert : Sound (inserted m r (ruleWord l p n t))

@@ -1,15 +1,35 @@
--- The laws of document 01's definitions, by subject.
+-- The laws of document 01's definitions, by subject. Assumes nothing.
+-- First the laws that a reader looks for, in the document's order:
+pub mod Winners
+pub mod Covering
+pub mod Boundaries
+pub mod Numbering
+pub mod Updates
+pub mod Lists
+pub mod Undone
+pub mod Fates
+pub mod Asked
+pub mod Refusals
+pub mod Steps
+pub mod Stops
+pub mod Said
+pub mod Listing
+pub mod Sides
+-- and then what they stand on, and what the code's proofs cite
 pub mod Tables
 pub mod Insert
 pub mod Places
 pub mod Parted
 pub mod Constant
 pub mod Words
+pub mod Checks
 pub mod Sound
 pub mod Kept
 pub mod Agree
-pub mod Listing
 pub mod Members
+pub mod Moving
+pub mod ByPlace
+pub mod Searches
 pub mod Pigeon
 pub mod Walks
 pub mod Circles
@@ -18,3 +38,13 @@ pub mod Means
 pub mod Ends
 pub mod Exchange
 pub mod Owners
+pub mod Boxes
+pub mod Bits
+pub mod Below
+pub mod LabelWords
+pub mod Idle
+pub mod Numbered
+pub mod Labelled
+pub mod Reading
+pub mod Splitting
+pub mod OneRule

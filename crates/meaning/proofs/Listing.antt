@@ -63,7 +63,7 @@ table =
     ∷ []
 
 -- to unfold this is to unfold every definition of the meaning but the search over addresses
-opened : ℕ
+unfoldable pub opened : ℕ
 unfolding fresh sourceOf endOf linkWord live linkOf rank covers lower upper overlap ruleWord better best ruleAt eligible winner linkFor nextAt placeOf isCut insertAt splitCut splitNumber splitCount withCut linkOrNone changedAt changedPlaces entryAt entriesAt arrive leave move after stands standsAt anyBelow lowestBelow goesRound onCircle comesTo told fateIn fateOf loopsAt circleAt someNode loopFrom reachFrom reachesAt isOut isLost isRound asked leastPlace countPlace byPlace number isKind bodyOf recordOf when phaseOf ragged clashes added refusal withRule inserted withNodes withLink closed leaves listed nodeOf changes only answers accepted taken stepBy stepIn onward linesFrom
 opened = 0
 

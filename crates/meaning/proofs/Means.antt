@@ -34,12 +34,12 @@ module _ (m : State) (S : Sound m) (v a : ℕ) where
       ap₂ _&&_ (lt-ltb (lower x) (upper y) (omega (arith, leb-true (lower x) a (b .0), ltb-true a (upper y) (c .1))))
       (lt-ltb (lower y) (upper x) (omega (arith, leb-true (lower y) a (c .0), ltb-true a (upper x) (b .1))))
 
-  record Fit (i : ℕ) : Type 0 where
-    alive : live (ruleAt m i) ≡ true
-    here : sourceOf m (linkOf (ruleAt m i)) ≡ v
-    over : covers (ruleAt m i) a ≡ true
+  pub record Fit (i : ℕ) : Type 0 where
+    pub alive : live (ruleAt m i) ≡ true
+    pub here : sourceOf m (linkOf (ruleAt m i)) ≡ v
+    pub over : covers (ruleAt m i) a ≡ true
 
-  fit : (i : ℕ) → eligible m v a i ≡ true → Fit i
+  pub fit : (i : ℕ) → eligible m v a i ≡ true → Fit i
   unfolding eligible
   fit i e = let b = and-both _ _ e in let c = and-both _ _ (b .1) in record { alive = b .0; here = eqb-true _ _ (c .0); over = c .1 }
 

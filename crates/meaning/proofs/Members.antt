@@ -7,6 +7,7 @@ use mathlib.Core.Path.{_≡_, refl, sym, ap, ap₂, _∙_, subst}
 use Prim.Native.Nat.{ℕ, zero, suc, _+_, _-_, _*_, _/_, _%_, _^_, _≤_, _<_}
 use native.Mathlib.Nat.{not-suc-le-zero, pow-suc, pow-succ', div-one, div-div-eq-div-mul, mod-lt, zero-lt-suc, add-zero}
 use native.Mathlib.Decide.{ℕ-discrete}
+use native.Mathlib.Numerals.{add-one}
 use native.Mathlib.Omega.{arith}
 use lib.Dec.{eqb}
 use lib.Pow.{pow-pos, pow-lt}
@@ -28,10 +29,10 @@ word-lt (suc n) f = go (f 0) (word-lt n (λ j. f (suc j)))
     go true h = omega (arith, pow-suc 2 n)
     go false h = omega (arith, pow-suc 2 n)
 
-bit-zero : (w : ℕ) → bit w 0 ≡ w % 2
+pub bit-zero : (w : ℕ) → bit w 0 ≡ w % 2
 bit-zero w = ap (λ (x : ℕ). x % 2) (div-one w)
 
-bit-suc : (w j : ℕ) → bit w (suc j) ≡ bit (w / 2) j
+pub bit-suc : (w j : ℕ) → bit w (suc j) ≡ bit (w / 2) j
 bit-suc w j = ap (λ (x : ℕ). w / x % 2) (pow-succ' 2 j) ∙ ap (λ (x : ℕ). x % 2) (sym (div-div-eq-div-mul w 2 (2 ^ j)))
 
 pub word-bit : (n : ℕ) (f : ℕ → Bool) (j : ℕ) → j < n → eqb (bit (wordOf n f) j) 1 ≡ f j
@@ -94,6 +95,14 @@ any-true P (suc n) i l e = go (any-true P n i) (ℕ-discrete i n)
     go : (i < n → P i ≡ true → anyBelow n P ≡ true) → Dec (i ≡ n) → (anyBelow n P || P n) ≡ true
     go f (yes q) = ap (λ (b : Bool). anyBelow n P || b) (sym (ap P q) ∙ e) ∙ right (anyBelow n P)
     go f (no q) = ap (λ (b : Bool). b || P n) (f (omega arith) e)
+
+pub any-none : (P : ℕ → Bool) → anyBelow 0 P ≡ false
+unfolding anyBelow
+any-none P = refl
+
+pub any-more : (P : ℕ → Bool) (i : ℕ) → anyBelow i P ≡ false → P i ≡ false → anyBelow (i + 1) P ≡ false
+unfolding anyBelow
+any-more P i e f = rw (add-one, e, f)
 
 pub any-some : (P : ℕ → Bool) (n : ℕ) → anyBelow n P ≡ true → (i : ℕ) × (i < n) × (P i ≡ true)
 unfolding anyBelow

@@ -51,6 +51,15 @@ pub record Agrees (link label owner : List ℕ) : Type 0 where
 pub record Starts (link owner : List ℕ) : Type 0 where
   pub here : (k v : ℕ) → k < 512 → v < 16 → (ownerIn owner k v ≡ 0 → ⊥) → getD link (via (ownerIn owner k v)) 0 / 1024 ≡ v
 
+-- where an owner's link ends at a node, that node is one of 16
+pub record Ends (link owner : List ℕ) : Type 0 where
+  pub inside : (k v : ℕ) → k < 512 → v < 16 → (ownerIn owner k v ≡ 0 → ⊥) → endIn link (ownerIn owner k v / 512 % 64) < 256 → endIn link (ownerIn owner k v / 512 % 64) < 16
+
+-- an owner holds a rule's number, counted from 1
+pub record Numbered (owner : List ℕ) : Type 0 where
+  pub from : (k v : ℕ) → k < 512 → v < 16 → (ownerIn owner k v ≡ 0 → ⊥) → 0 < ownerIn owner k v % 512
+  pub upto : (k v : ℕ) → k < 512 → v < 16 → ownerIn owner k v % 512 ≤ 256
+
 -- the box is in order
 pub record Whole (m : State) (label owner : List ℕ) : Type 0 where
   pub sound : Sound m

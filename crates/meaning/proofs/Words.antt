@@ -111,8 +111,14 @@ fits s = go (getD s 0 0)
 -- ---- for code: `covers` and `eligible` by the tests on the way
 
 -- a one shifted by some of the 64 places
+pub shl-at : (k : ℕ) → k < 64 → 1 * 2 ^ k % 2 ^ 64 ≡ 2 ^ k
+shl-at k h = ap (λ (x : ℕ). x % 2 ^ 64) (one-mul (2 ^ k)) ∙ mod-eq-of-lt (pow-lt {i = k} {j = 64} h)
+
 pub shl : (n : ℕ) → 1 * 2 ^ (n % 64) % 2 ^ 64 ≡ 2 ^ (n % 64)
-shl n = ap (λ (x : ℕ). x % 2 ^ 64) (one-mul (2 ^ (n % 64))) ∙ mod-eq-of-lt (pow-lt {i = n % 64} {j = 64} (mod-lt n (zero-lt-suc 63)))
+shl n = shl-at (n % 64) (mod-lt n (zero-lt-suc 63))
+
+pub shl-le : (n : ℕ) → 1 * 2 ^ (n % 64) % 2 ^ 64 ≤ 2 ^ 63
+shl-le n = rw shl (pow-mono {i = n % 64} {j = 63} (omega arith))
 
 module _ (w a : ℕ) where
   pub covers-low : a < lower w → false ≡ covers w a

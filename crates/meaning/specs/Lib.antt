@@ -1,4 +1,4 @@
--- What document 01 says, as definitions: what a reader must believe. One file a section, in the document's order.
+-- What document 01 says, as definitions: what a reader must believe. One file a section, in the document's order. Assumes nothing.
 -- The laws that show that these are the definitions meant stand in proofs/.
 pub mod Search
 pub mod Hall

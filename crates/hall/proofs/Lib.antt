@@ -1,0 +1,9 @@
+-- Laws of the box's own relations, which the proofs of its functions cite.
+mod Gives
+mod Moves
+mod Splits
+mod Rules
+mod Sweeping
+mod Clears
+mod Running
+mod Updated

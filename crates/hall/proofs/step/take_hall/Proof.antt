@@ -1,0 +1,43 @@
+-- `hall::step::take_hall` meets its contract: a hall record is refused by 4, or sets the nodes and the phase. Assumes nothing.
+use mathlib.Core.Path.{refl}
+use native.Mathlib.Omega.{arith}
+use borrow.Author.Needs.{needs}
+use borrow.Author.Tests.{eq-eqb, ne-eqb, lt-ltb, le-ltb}
+use Rattle.meaning.specs.declared.Record.the-variants.{Hall as aHall}
+use Rattle.meaning.specs.Records.{phaseOf}
+use Rattle.meaning.specs.Step.{when, refusal, withNodes, leaves, changes, answers}
+use Rattle.meaning.proofs.Boxes.{turned-takes, opened-takes}
+use Rattle.hall.proofs.step.take_hall.Statement.{statement}
+use Rattle.hall.proofs.step.take_hall.Tie as tie
+
+only-requires : tie.Need-only-requires
+only-requires c κs = search needs
+
+returns : tie.Need-returns
+unfolding refusal when
+returns c link rule cut number label owner list h p =
+    rw (c .only .ensures) (turned-takes _ label owner list h _ _ 4 (rw (eq-eqb _ 0 (c .before .if1 .taken))))
+
+only-requires-2 : tie.Need-only-requires-2
+only-requires-2 c κs = search needs
+
+returns-2 : tie.Need-returns-2
+unfolding refusal when
+returns-2 c link rule cut number label owner list h p =
+    let d = c .before in
+    rw (c .only2 .ensures) (turned-takes _ label owner list h _ _ 4 (rw (ne-eqb _ 0 (d .before .if1 .left), lt-ltb 16 _ (d .if2 .taken))))
+
+returns-3 : tie.Need-returns-3
+unfolding refusal when phaseOf answers changes leaves withNodes
+returns-3 c link rule cut number label owner list h p =
+    opened-takes _ label owner list h _ (aHall (c .before .before .args .nodes)) (omega arith) p (rw (ne-eqb _ 0 (c .before .if1 .left), le-ltb 16 _ (c .if2 .left))) refl refl _ refl
+
+pub take-hall-spec : {M : Type 1} → statement M
+take-hall-spec =
+    tie.close
+    (tie.spec
+    only-requires
+    returns
+    only-requires-2
+    returns-2
+    returns-3)

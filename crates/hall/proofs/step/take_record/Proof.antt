@@ -1,0 +1,103 @@
+-- `hall::step::take_record` meets its contract: too short a list, what was read, the order, and then what the record does. Assumes nothing.
+use mathlib.Core.Path.{sym, _∙_}
+use borrow.Author.Needs.{needs}
+use Rattle.meaning.proofs.Boxes.{short-leaves, end-leaves, unread-leaves, disorder-leaves, order-leaves}
+use Rattle.hall.proofs.step.take_record.Statement.{statement}
+use Rattle.hall.proofs.step.take_record.Tie as tie
+
+only-requires : tie.Need-only-requires
+only-requires c κs = search needs
+
+returns : tie.Need-returns
+returns c =
+    let d = c .before in
+    rw (c .only .ensures) (short-leaves _ _ _ _ (d .before .before .before .pre) _ (d .if1 .taken))
+
+read-record-requires : tie.Need-read-record-requires
+read-record-requires c κs = search needs
+
+enum-told : tie.Need-enum-told
+enum-told c = search needs
+
+only-requires-2 : tie.Need-only-requires-2
+only-requires-2 c κs = search needs
+
+enum-known-k : tie.Need-enum-known-k
+enum-known-k c = search needs
+
+only-requires-3 : tie.Need-only-requires-3
+only-requires-3 c κs = search needs
+
+enum-known-what : tie.Need-enum-known-what
+enum-known-what c = search needs
+
+phase-of-requires : tie.Need-phase-of-requires
+phase-of-requires c κs = search needs
+
+only-requires-4 : tie.Need-only-requires-4
+only-requires-4 c κs = search needs
+
+returns-2 : tie.Need-returns-2
+returns-2 c =
+    let o = c .before in
+    let w = o .before .before .before .before in
+    let d = w .before .before in
+    let l = d .before in
+    rw (c .only4 .ensures)
+    (disorder-leaves _ _ _ _ (l .before .before .before .pre) _ (l .if1 .left) _ _ (sym (d .read-record .ensures) ∙ w .what .given .1)
+    (λ e. o .if2 .taken (e ∙ sym (o .before .before .phase-of .ensures))))
+
+act-requires : tie.Need-act-requires
+act-requires c κs =
+    let e = c .before .before .before .before .before .before .before in
+    let l = e .before .before .before .before .before .before .before in
+    (l .before .before .before .pre, (e .if2 .left ∙ e .before .before .phase-of .ensures, l .if1 .left))
+
+returns-3 : tie.Need-returns-3
+returns-3 c =
+    let t = c .before in
+    let d = t .before .before in
+    let l = d .before in
+    rw (c .only2 .ensures)
+    (end-leaves _ _ _ _ (l .before .before .before .pre) _ (l .if1 .left) (sym (d .read-record .ensures) ∙ t .enum-told .given .1))
+
+returns-4 : tie.Need-returns-4
+returns-4 c =
+    let k = c .before .before in
+    let d = k .before .before in
+    let l = d .before in
+    rw (c .only3 .ensures)
+    (unread-leaves _ _ _ _ (l .before .before .before .pre) _ (l .if1 .left) _ (sym (d .read-record .ensures) ∙ k .k .given .1))
+
+same-length : tie.Need-same-length
+same-length c = search needs
+
+returns-5 : tie.Need-returns-5
+returns-5 c =
+    let a = c .before .before in
+    let e = a .before .before .before .before .before .before .before .before in
+    let w = e .before .before .before .before in
+    let d = w .before .before in
+    a .act .ensures
+    ∙ order-leaves _ _ _ (d .before .if1 .left) _ _ (sym (d .read-record .ensures) ∙ w .what .given .1) (e .if2 .left ∙ e .before .before .phase-of .ensures)
+
+pub take-record-spec : {M : Type 1} → statement M
+take-record-spec =
+    tie.close
+    (tie.spec
+    only-requires
+    returns
+    read-record-requires
+    enum-told
+    only-requires-2
+    enum-known-k
+    only-requires-3
+    enum-known-what
+    phase-of-requires
+    only-requires-4
+    returns-2
+    act-requires
+    returns-3
+    returns-4
+    same-length
+    returns-5)

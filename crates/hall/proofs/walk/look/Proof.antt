@@ -1,0 +1,123 @@
+-- `walk::look` meets its contract. The loop's invariant: the packet stands at `here` after i moves from v, none of them led back to v, and
+-- each node passed leads to `here`. Assumes nothing.
+use borrow.Author.Needs.{needs}
+use mathlib.Core.Path.{_≡_, refl}
+use Prim.Native.Nat.{_-_, _≤_, _<_}
+use native.Mathlib.Omega.{arith}
+use borrow.Author.Tests.{eq-eqb}
+use Rattle.meaning.specs.Walk.{at, after, onCircle}
+use Rattle.meaning.proofs.Owners.{nextIn, endIn}
+use Rattle.meaning.proofs.Moving.{step-to, NotBack, back-now, not-back, no-circle, none-below, Trail, trail-start, trail-here, trail-on, trail-off, off-before}
+use Rattle.hall.specs.Moves.{led, seen}
+use Rattle.hall.proofs.walk.look.Statement.{statement}
+use Rattle.hall.proofs.walk.look.Tie as tie
+
+abbrev Inv-loop : tie.InvT-loop
+Inv-loop link owner atom n v off here₀ passed₀ i₀ here passed i = (i ≤ n) × (here < 16) × (after (nextIn owner atom) (endIn link) i (at v) ≡ at here) × NotBack (nextIn owner atom) (endIn link) v i × Trail (nextIn owner atom) (endIn link) n passed here
+
+abbrev μ-loop : tie.MeasureT-loop
+μ-loop link owner atom n v off here₀ passed₀ i₀ here passed i = n - i
+
+shr-if1 : tie.Need-shr-if1 Inv-loop μ-loop
+shr-if1 c = search needs
+
+returns : tie.Need-returns Inv-loop μ-loop
+unfolding seen
+returns c =
+    let s = c .before in
+    (s .pre .4 .none-on _ (eq-eqb _ _ (c .if1 .taken)), s .pre .4)
+
+loop-holds : tie.Need-loop-holds Inv-loop μ-loop
+unfolding after
+loop-holds c = (omega arith, omega arith, refl, (λ k h. absurd (omega arith)), trail-start _ _ _ _ _ (c .before .pre .4))
+
+cast-passed : tie.Need-cast-passed Inv-loop μ-loop
+cast-passed c = search needs
+
+shl-passed : tie.Need-shl-passed Inv-loop μ-loop
+shl-passed c = omega arith
+
+move-from-requires : tie.Need-move-from-requires Inv-loop μ-loop
+move-from-requires c κs = search needs
+
+enum-known-w : tie.Need-enum-known-w Inv-loop μ-loop
+enum-known-w c = search needs
+
+returns-2 : tie.Need-returns-2 Inv-loop μ-loop
+unfolding led seen
+returns-2 c =
+    let l = c .before .before .before .before .before .before in
+    let q = rw (c .before .before .w .given .1) at (c .before .before .before .before .move-from .ensures) in
+    back-now _ _ _ _ _ (l .loop .inv .2) _ _ (omega arith) (q .0) (c .if2 .taken)
+
+cast-if3 : tie.Need-cast-if3 Inv-loop μ-loop
+cast-if3 c = search needs
+
+shr-if3 : tie.Need-shr-if3 Inv-loop μ-loop
+unfolding led
+shr-if3 c =
+    let q = rw (c .before .before .w .given .1) at (c .before .before .before .before .move-from .ensures) in
+    q .1
+
+returns-3 : tie.Need-returns-3 Inv-loop μ-loop
+unfolding led seen
+returns-3 c =
+    let l = c .before .before .before .before .before .before .before in
+    let q = rw (c .before .before .before .w .given .1) at (c .before .before .before .before .before .move-from .ensures) in
+    let off = l .before .before .pre .4 .none-on _ (eq-eqb _ _ (c .if3 .taken)) in
+    let to = trail-on _ _ _ _ _ (trail-here _ _ _ _ _ (l .loop .inv .1) (l .loop .inv .4)) _ (q .0) in
+    (off-before _ _ _ _ _ _ (step-to _ _ _ _ _ (l .loop .inv .2) _ (q .0)) off, trail-off _ _ _ _ _ to off)
+
+enum-told : tie.Need-enum-told Inv-loop μ-loop
+enum-told c = search needs
+
+returns-4 : tie.Need-returns-4 Inv-loop μ-loop
+unfolding led seen
+returns-4 c =
+    let l = c .before .before .before .before in
+    let q = rw (c .enum-told .given .1) at (c .before .before .move-from .ensures) in
+    let off = no-circle _ _ _ q _ in
+    (off-before _ _ _ _ _ _ (l .loop .inv .2) off, trail-off _ _ _ _ _ (trail-here _ _ _ _ _ (l .loop .inv .1) (l .loop .inv .4)) off)
+
+add-i : tie.Need-add-i Inv-loop μ-loop
+add-i c = search needs
+
+loop-less : tie.Need-loop-less Inv-loop μ-loop
+loop-less c = search needs
+
+loop-again : tie.Need-loop-again Inv-loop μ-loop
+unfolding led
+loop-again c =
+    let l = c .before .before .before .before .before .before .before in
+    let q = rw (c .before .before .before .w .given .1) at (c .before .before .before .before .before .move-from .ensures) in
+    let b = not-back _ _ _ _ _ (l .loop .inv .2) (l .loop .inv .3) _ (q .0) (c .before .if2 .left) in
+    let to = trail-on _ _ _ _ _ (trail-here _ _ _ _ _ (l .loop .inv .1) (l .loop .inv .4)) _ (q .0) in
+    (omega arith, q .1, step-to _ _ _ _ _ (l .loop .inv .2) _ (q .0), b, to)
+
+returns-5 : tie.Need-returns-5 Inv-loop μ-loop
+unfolding seen onCircle
+returns-5 c = (none-below _ _ _ (c .before .loop .inv .3) (omega arith), c .before .before .before .pre .4)
+
+pub look-spec : {M : Type 1} → statement M
+look-spec =
+    tie.close
+    (tie.spec
+    Inv-loop
+    μ-loop
+    shr-if1
+    returns
+    loop-holds
+    cast-passed
+    shl-passed
+    move-from-requires
+    enum-known-w
+    returns-2
+    cast-if3
+    shr-if3
+    returns-3
+    enum-told
+    returns-4
+    add-i
+    loop-less
+    loop-again
+    returns-5)

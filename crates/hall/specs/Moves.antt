@@ -1,0 +1,21 @@
+-- What code's answers about one move and about one node mean. Assumes nothing: these are definitions.
+use mathlib.Core.Path.{_≡_}
+use mathlib.Core.Bool.{true, false}
+use mathlib.Core.Option.{Option}
+use Prim.Native.Nat.{ℕ, _<_}
+use Rattle.meaning.specs.Walk.{Place, at, onCircle}
+use Rattle.meaning.proofs.Moving.{Off}
+use Rattle.hall.specs.declared.walk.Led.{Led}
+use Rattle.hall.specs.declared.walk.Led.the-variants.{To, Ended}
+use Rattle.hall.specs.declared.walk.Seen.{Seen}
+use Rattle.hall.specs.declared.walk.Seen.the-variants.{Circle, Off as off}
+
+-- the move leads to this node, one of 16; or it leads to no node
+unfoldable pub led : Led → Place → Type 0
+led (To w) p = (p ≡ at w) × (w < 16)
+led Ended p = (w : ℕ) → p ≡ at w → ⊥
+
+-- node v lies on a circle; or it does not, and neither do these
+unfoldable pub seen : (ℕ → Option ℕ) → (ℕ → ℕ) → ℕ → ℕ → Seen → Type 0
+seen next end n v Circle = onCircle next end n v ≡ true
+seen next end n v (off nodes) = (onCircle next end n v ≡ false) × Off next end n nodes

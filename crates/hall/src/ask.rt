@@ -1,0 +1,163 @@
+// The questions: fate, loop, reach and tally, each over the atoms by rising address.
+use crate::atom::Place;
+use crate::walk::Seen;
+use meaning::Answer;
+use meaning::Fate;
+use meaning::Hall;
+ghost use mathlib.Core.Path.{_≡_};
+ghost use Prim.Native.Nat.{ℕ, _+_, _-_, _<_, _≤_};
+ghost use Rattle.meaning.specs.Questions.{fateOf, byAddress};
+ghost use Rattle.meaning.specs.Box.{stateOf};
+ghost use Rattle.meaning.specs.declared.Record.the-variants.{Loop as askLoop, Reach as askReach, Tally as askTally};
+ghost use Rattle.meaning.specs.Hall.{top};
+ghost use Rattle.meaning.proofs.Owners.{Whole};
+ghost use Rattle.hall.specs.Tallied.{Counted};
+
+// What becomes of a packet to address a from node v.
+pub fn fate_from(
+    h: Hall,
+    link: &[u16; 64],
+    rule: &[u64; 256],
+    cut: &[u64; 513],
+    number: &[u16; 512],
+    label: &[u64; 512],
+    owner: &[u16; 8192],
+    v: u8,
+    a: u32,
+) -> Fate
+    requires { ⌜ Whole (stateOf h (now link) (now rule) (now cut) (now number)) (now label) (now owner) ⌝ }
+    requires { ⌜ v < h .nodes ⌝ }
+    ensures { λ r. ⌜ r ≡ fateOf (stateOf h (now (link .entry)) (now (rule .entry)) (now (cut .entry)) (now (number .entry))) v a ⌝ }
+{
+    let p = crate::atom::place_of(cut, h.atoms as usize, a as u64);
+    let atom = crate::atom::atom_at(number, p).0 as usize;
+    crate::walk::follow(link, owner, atom, h.nodes, v)
+}
+
+// The lowest address that goes round from some node, and the lowest node on one of its circles.
+pub fn find_loop(
+    h: Hall,
+    link: &[u16; 64],
+    rule: &[u64; 256],
+    cut: &[u64; 513],
+    number: &[u16; 512],
+    label: &[u64; 512],
+    owner: &[u16; 8192],
+) -> Answer
+    requires { ⌜ Whole (stateOf h (now link) (now rule) (now cut) (now number)) (now label) (now owner) ⌝ }
+    ensures { λ r. ⌜ r ≡ byAddress (stateOf h (now (link .entry)) (now (rule .entry)) (now (cut .entry)) (now (number .entry))) askLoop ⌝ }
+{
+    let atoms = h.atoms as usize;
+    let nodes = h.nodes;
+    let mut answer = Answer::NoLoop;
+    let mut p: usize = 0;
+    'search: while p < atoms {
+        let atom = crate::atom::atom_at(number, Place(p)).0 as usize;
+        let mut off: u16 = 0;
+        let mut v: u8 = 0;
+        while v < nodes {
+            match crate::walk::look(link, owner, atom, nodes, v, off) {
+                Seen::Circle => {
+                    answer = Answer::Loop(cut[p], v);
+                    break 'search;
+                }
+                Seen::Off(more) => {
+                    off = more;
+                }
+            }
+            v += 1;
+        }
+        p += 1;
+    }
+    answer
+}
+
+// The lowest address whose walk from node v stands at node w.
+pub fn find_reach(
+    h: Hall,
+    link: &[u16; 64],
+    rule: &[u64; 256],
+    cut: &[u64; 513],
+    number: &[u16; 512],
+    label: &[u64; 512],
+    owner: &[u16; 8192],
+    v: u8,
+    w: u8,
+) -> Answer
+    requires { ⌜ Whole (stateOf h (now link) (now rule) (now cut) (now number)) (now label) (now owner) ⌝ }
+    requires { ⌜ v < h .nodes ⌝ }
+    ensures { λ r. ⌜ r ≡ byAddress (stateOf h (now (link .entry)) (now (rule .entry)) (now (cut .entry)) (now (number .entry))) (askReach v w) ⌝ }
+{
+    let atoms = h.atoms as usize;
+    let mut p: usize = 0;
+    while p < atoms {
+        let atom = crate::atom::atom_at(number, Place(p)).0 as usize;
+        if crate::walk::comes_to(link, owner, atom, h.nodes, v, w) {
+            return Answer::Yes(cut[p]);
+        }
+        p += 1;
+    }
+    Answer::No
+}
+
+// How many addresses are out, lost and round from some node.
+struct Counts {
+    out: u64,
+    lost: u64,
+    round: u64,
+}
+
+// A packet of this fate, for so many addresses more.
+fn counted(c: Counts, f: Fate, width: u64) -> Counts
+    requires { ⌜ (c .out + width ≤ top) × (c .lost + width ≤ top) × (c .round + width ≤ top) ⌝ }
+    ensures { λ r. ⌜ Counted c f width r ⌝ }
+{
+    match f {
+        Fate::Out(_, _) => Counts {
+            out: c.out + width,
+            lost: c.lost,
+            round: c.round,
+        },
+        Fate::Lost(_, _) => Counts {
+            out: c.out,
+            lost: c.lost + width,
+            round: c.round,
+        },
+        Fate::Round => Counts {
+            out: c.out,
+            lost: c.lost,
+            round: c.round + width,
+        },
+    }
+}
+
+// How many addresses are out, lost and round from node v, each counted by its own fate.
+pub fn count_fates(
+    h: Hall,
+    link: &[u16; 64],
+    rule: &[u64; 256],
+    cut: &[u64; 513],
+    number: &[u16; 512],
+    label: &[u64; 512],
+    owner: &[u16; 8192],
+    v: u8,
+) -> Answer
+    requires { ⌜ Whole (stateOf h (now link) (now rule) (now cut) (now number)) (now label) (now owner) ⌝ }
+    requires { ⌜ v < h .nodes ⌝ }
+    ensures { λ r. ⌜ r ≡ byAddress (stateOf h (now (link .entry)) (now (rule .entry)) (now (cut .entry)) (now (number .entry))) (askTally v) ⌝ }
+{
+    let atoms = h.atoms as usize;
+    let mut c = Counts {
+        out: 0,
+        lost: 0,
+        round: 0,
+    };
+    let mut p: usize = 0;
+    while p < atoms {
+        let atom = crate::atom::atom_at(number, Place(p)).0 as usize;
+        let f = crate::walk::follow(link, owner, atom, h.nodes, v);
+        c = counted(c, f, cut[p + 1] - cut[p]);
+        p += 1;
+    }
+    Answer::Tally(c.out, c.lost, c.round)
+}

@@ -1,0 +1,183 @@
+-- One move by the tables, and the questions about a walk as code asks them: move by move. Assumes nothing.
+use mathlib.Core.Path.{_≡_, refl, sym, ap, ap₂, _∙_}
+use mathlib.Core.Logic.{_⊎_, inl, inr, ⊎-elim}
+use mathlib.Core.Bool.{Bool, true, false, _||_, true≢false}
+use mathlib.Core.List.{List}
+use mathlib.Core.Option.{Option, none, some}
+use Prim.Native.Nat.{ℕ, suc, _+_, _*_, _/_, _%_, _^_, _≤_, _<_}
+use native.Mathlib.Nat.{mod-eq-of-lt, one-mul}
+use native.Mathlib.Decide.{ℕ-discrete}
+use native.Mathlib.Numerals.{add-one}
+use native.Mathlib.Omega.{arith}
+use borrow.Author.Count.{below-more}
+use lib.Pow.{pow-lt}
+use lib.Bits.{bitOr}
+use lib.Dec.{ltb, eqb}
+use borrow.Author.Tests.{lt-ltb, le-ltb, eq-eqb, ne-eqb}
+use Rattle.meaning.specs.Search.{pick, anyBelow}
+use Rattle.meaning.specs.Labels.{bit}
+use Rattle.meaning.specs.Walk.{Place, at, out, lost, arrive, leave, move, after, standsAt, onCircle, comesTo}
+use Rattle.meaning.proofs.Walks.{Reaches, after-suc, going-le}
+use Rattle.meaning.proofs.Places.{le-or-lt}
+use Rattle.meaning.proofs.Members.{any-true, any-some}
+use Rattle.meaning.proofs.Idle.{any-off}
+use Rattle.meaning.proofs.Means.{stands-at, at-stands}
+use Rattle.meaning.proofs.Bits.{bit-of-zero, set-bit}
+use Rattle.meaning.proofs.Circles.{round-again}
+use Rattle.meaning.proofs.Owners.{ownerIn, viaLink, nextIn}
+
+-- a place that is no node
+apart : (v l w : ℕ) (t : Bool) → pick t (out l) (lost v) ≡ at w → ⊥
+apart v l w true e = let z : _≡_ {A = ℕ} 0 1 = cc in omega arith
+apart v l w false e = let z : _≡_ {A = ℕ} 0 1 = cc in omega arith
+
+-- the next link by an owner, and where it leads
+module _ (owner : List ℕ) (k v : ℕ) (h : v < 16) where
+  pub next-none : ownerIn owner k v ≡ 0 → nextIn owner k v ≡ none
+  unfolding nextIn viaLink
+  next-none e = rw (lt-ltb v 16 h, eq-eqb (ownerIn owner k v) 0 e)
+
+  pub next-some : (ownerIn owner k v ≡ 0 → ⊥) → nextIn owner k v ≡ some (ownerIn owner k v / 512 % 64)
+  unfolding nextIn viaLink
+  next-some n = rw (lt-ltb v 16 h, ne-eqb (ownerIn owner k v) 0 n)
+
+  module _ (end : ℕ → ℕ) where
+    pub no-owner : ownerIn owner k v ≡ 0 → (w : ℕ) → move (nextIn owner k) end (at v) ≡ at w → ⊥
+    unfolding move leave
+    no-owner e w q = apart v 0 w false (sym (ap (leave end v) (next-none e)) ∙ q)
+
+    pub to-node : (ownerIn owner k v ≡ 0 → ⊥) → end (ownerIn owner k v / 512 % 64) < 256 → move (nextIn owner k) end (at v) ≡ at (end (ownerIn owner k v / 512 % 64))
+    unfolding move leave arrive
+    to-node n l = rw (next-some n, lt-ltb (end (ownerIn owner k v / 512 % 64)) 256 l)
+
+    pub to-end : (ownerIn owner k v ≡ 0 → ⊥) → 256 ≤ end (ownerIn owner k v / 512 % 64) → (w : ℕ) → move (nextIn owner k) end (at v) ≡ at w → ⊥
+    unfolding move leave arrive
+    to-end n l w q =
+        let x : ℕ = ownerIn owner k v / 512 % 64 in
+        apart v x w (ltb (end x) 512) (sym (ap (leave end v) (next-some n) ∙ ap (λ (t : Bool). pick t (at (end x)) (pick (ltb (end x) 512) (out x) (lost v))) (le-ltb (end x) 256 l)) ∙ q)
+
+-- some number below n has P, where those below i have not
+module _ (P : ℕ → Bool) (n i : ℕ) (before : (k : ℕ) → k < i → P k ≡ false) where
+  none-after : ((k : ℕ) → i ≤ k → P k ≡ false) → anyBelow n P ≡ false
+  none-after off = any-off P n (λ k h. ⊎-elim (λ (l : i ≤ k). off k l) (λ (l : k < i). before k l) (le-or-lt i k))
+
+  pub none-below : n ≤ i → anyBelow n P ≡ false
+  none-below h = any-off P n (λ k l. before k (omega arith))
+
+-- the walk from v, which stands at u after i moves
+module _ (next : ℕ → Option ℕ) (end : ℕ → ℕ) (v i u : ℕ) (here : after next end i (at v) ≡ at u) where
+  -- one move more
+  pub step-to : (w : ℕ) → move next end (at u) ≡ at w → after next end (i + 1) (at v) ≡ at w
+  step-to w e = rw add-one (after-suc next end i (at v) ∙ ap (move next end) here ∙ e)
+
+  -- where no move leads on, it stands nowhere later
+  stopped : ((w : ℕ) → move next end (at u) ≡ at w → ⊥) → (k w : ℕ) → i < k → standsAt w (after next end k (at v)) ≡ false
+  unfolding standsAt
+  stopped off k w l = go (after next end k (at v)) refl
+    where
+      go : (q : Place) → after next end k (at v) ≡ q → standsAt w q ≡ false
+      go (out x) e = refl
+      go (lost x) e = refl
+      go (at x) e =
+          let g = going-le next end (at v) (suc i) k l (x, e) in
+          absurd (off (g .0) (sym (ap (move next end) here) ∙ sym (after-suc next end i (at v)) ∙ g .1))
+
+  -- it stands at w now, or not
+  stands-now : (w : ℕ) → u ≡ w → standsAt w (after next end i (at v)) ≡ true
+  stands-now w e = at-stands w _ (here ∙ ap at e)
+
+  stands-not : (w : ℕ) → (u ≡ w → ⊥) → standsAt w (after next end i (at v)) ≡ false
+  unfolding standsAt
+  stands-not w n = ap (standsAt w) here ∙ ne-eqb u w n
+
+-- whether the walk comes to w, asked node by node
+module _ (next : ℕ → Option ℕ) (end : ℕ → ℕ) (v w : ℕ) where
+  abbrev pub NotYet : ℕ → Type 0
+  NotYet i = (k : ℕ) → k < i → standsAt w (after next end k (at v)) ≡ false
+
+  module _ (i u : ℕ) (here : after next end i (at v) ≡ at u) where
+    pub comes-now : (n : ℕ) → i < n → u ≡ w → comesTo next end n v w ≡ true
+    unfolding comesTo
+    comes-now n l e = any-true _ n i l (stands-now next end v i u here w e)
+
+    pub not-now : NotYet i → (u ≡ w → ⊥) → NotYet (i + 1)
+    not-now f n = below-more _ _ f (stands-not next end v i u here w n)
+
+    pub comes-never : NotYet (i + 1) → ((x : ℕ) → move next end (at u) ≡ at x → ⊥) → (n : ℕ) → comesTo next end n v w ≡ false
+    unfolding comesTo
+    comes-never f off n = none-after _ n (i + 1) f (λ k l. stopped next end v i u here off k w (omega arith))
+
+-- whether moves, one at least, lead back to v
+module _ (next : ℕ → Option ℕ) (end : ℕ → ℕ) (v : ℕ) where
+  abbrev pub NotBack : ℕ → Type 0
+  NotBack i = (k : ℕ) → k < i → standsAt v (after next end (suc k) (at v)) ≡ false
+
+  module _ (i u : ℕ) (here : after next end i (at v) ≡ at u) where
+    pub back-now : (n w : ℕ) → i < n → move next end (at u) ≡ at w → w ≡ v → onCircle next end n v ≡ true
+    unfolding onCircle
+    back-now n w l e q = any-true _ n i l (stands-now next end v (suc i) w (rw add-one at (step-to next end v i u here w e)) v q)
+
+    pub not-back : NotBack i → (w : ℕ) → move next end (at u) ≡ at w → (w ≡ v → ⊥) → NotBack (i + 1)
+    not-back f w e n = below-more _ _ f (stands-not next end v (suc i) w (rw add-one at (step-to next end v i u here w e)) v n)
+
+    pub back-never : NotBack i → ((x : ℕ) → move next end (at u) ≡ at x → ⊥) → (n : ℕ) → onCircle next end n v ≡ false
+    unfolding onCircle
+    back-never f off n = none-after _ n i f (λ k l. stopped next end v i u here off (suc k) v (omega arith))
+
+-- a node that no move leads on from
+pub no-circle : (next : ℕ → Option ℕ) (end : ℕ → ℕ) (u : ℕ) → ((x : ℕ) → move next end (at u) ≡ at x → ⊥) → (n : ℕ) → onCircle next end n u ≡ false
+unfolding after
+no-circle next end u off n = back-never next end u 0 u refl (λ k h. absurd (omega arith)) off n
+
+-- ---- nodes that are seen to lie on no circle
+
+-- node u is one of a set, a bit for each node
+abbrev pub among : ℕ → ℕ → Bool
+among nodes u = eqb (bit nodes u) 1
+
+-- none of these nodes lies on a circle
+pub record Off (next : ℕ → Option ℕ) (end : ℕ → ℕ) (n nodes : ℕ) : Type 0 where
+  pub none-on : (x : ℕ) → among nodes x ≡ true → onCircle next end n x ≡ false
+
+-- each of these nodes lies on no circle, or leads to u
+pub record Trail (next : ℕ → Option ℕ) (end : ℕ → ℕ) (n nodes u : ℕ) : Type 0 where
+  pub leads : (x : ℕ) → among nodes x ≡ true → (onCircle next end n x ≡ false) ⊎ Reaches next end x u
+
+pub nobody : (next : ℕ → Option ℕ) (end : ℕ → ℕ) (n : ℕ) → Off next end n 0
+nobody next end n = record { none-on = λ x e. absurd (true≢false (sym e ∙ ap (λ (d : ℕ). eqb d 1) (bit-of-zero x))) }
+
+module _ (next : ℕ → Option ℕ) (end : ℕ → ℕ) (n : ℕ) where
+  -- what leads to a node on no circle lies on none itself
+  pub off-before : (x i u : ℕ) → after next end i (at x) ≡ at u → onCircle next end n u ≡ false → onCircle next end n x ≡ false
+  unfolding onCircle
+  off-before x i u here f = go (onCircle next end n x) refl
+    where
+      go : (t : Bool) → onCircle next end n x ≡ t → t ≡ false
+      go false e = refl
+      go true e =
+          let r = any-some (λ k. standsAt x (after next end (suc k) (at x))) n e in
+          let back = round-again next end x (suc (r .0)) i u (stands-at x _ (r .2)) here in
+          absurd (true≢false (sym (any-true (λ k. standsAt u (after next end (suc k) (at u))) n (r .0) (r .1) (at-stands u _ back)) ∙ f))
+
+  module _ (nodes u : ℕ) where
+    pub trail-start : Off next end n nodes → Trail next end n nodes u
+    trail-start F = record { leads = λ x e. inl (F .none-on x e) }
+
+    -- u joins them, its bit set in a word of 16
+    pub trail-here : u < 16 → Trail next end n nodes u → Trail next end n (bitOr nodes (1 * 2 ^ u % 65536)) u
+    unfolding after
+    trail-here h T = rw one (record { leads = λ x e. go x (among nodes x) refl (ℕ-discrete u x) e })
+      where
+        one : 1 * 2 ^ u % 65536 ≡ 2 ^ u
+        one = ap (λ (x : ℕ). x % 65536) (one-mul (2 ^ u)) ∙ mod-eq-of-lt (pow-lt {j = 16} h)
+
+        go : (x : ℕ) (t : Bool) → among nodes x ≡ t → Dec (u ≡ x) → among (bitOr nodes (2 ^ u)) x ≡ true → (onCircle next end n x ≡ false) ⊎ Reaches next end x u
+        go x true f d e = T .leads x f
+        go x false f (yes q) e = inr (0, ap at (sym q))
+        go x false f (no q) e = absurd (true≢false (sym e ∙ set-bit nodes u x ∙ ap₂ _||_ f (ne-eqb u x q)))
+
+    pub trail-on : Trail next end n nodes u → (w : ℕ) → move next end (at u) ≡ at w → Trail next end n nodes w
+    trail-on T w m = record { leads = λ x e. ⊎-elim inl (λ r. inr (r .0 + 1, step-to next end x (r .0) u (r .1) w m)) (T .leads x e) }
+
+    pub trail-off : Trail next end n nodes u → onCircle next end n u ≡ false → Off next end n nodes
+    trail-off T f = record { none-on = λ x e. ⊎-elim (λ g. g) (λ r. off-before x (r .0) u (r .1) f) (T .leads x e) }
