@@ -2,5 +2,8 @@
 mod line;
 mod number;
 
-// The most bytes that a line has: each function here asks for so much room.
+pub use line::put_change;
+pub use line::put_line;
+
+// The most bytes that a line has: so much room a line asks for.
 pub const ROOM: usize = 128;

@@ -1,0 +1,63 @@
+// hallcheck: reads a stream of records from standard input, at most 65,536 bytes, and prints a line for each record.
+// No contract can say what is read or printed; what each line holds is the contract of the crate `print`.
+use meaning::Answer;
+use meaning::Hall;
+ghost use Prim.Native.Nat.{_+_, _*_, _≤_};
+ghost use lib.ListN.{length};
+ghost use Rattle.meaning.specs.Box.{stateOf, Held};
+ghost use Rattle.hallcheck.specs.Room.{Room, Listed};
+
+// Whether standard input has a byte more.
+fn is_more() -> bool {
+    let mut one = [0u8; 1];
+    io::read_full(0, &mut one) > 0
+}
+
+// Makes room for a line: where there is too little, what is in the buffer is written out. Gives the place to go on at.
+fn make_room(out: &[u8], end: usize) -> usize
+    requires { ⌜ Room (now out) end ⌝ }
+    ensures { λ r. ⌜ r + 128 ≤ length (now (out .entry)) ⌝ }
+{
+    if out.len() - end < print::ROOM {
+        io::write_all(1, &out[..end]);
+        return 0;
+    }
+    end
+}
+
+// A line for each of so many entries of the change list.
+fn print_changes(out: &mut [u8], from: usize, list: &[u64], count: usize) -> usize
+    requires { ⌜ Room (now out) from ⌝ }
+    requires { ⌜ count * 5 ≤ length (now list) ⌝ }
+    ensures { λ r. ⌜ Room (now (out .exit)) r ⌝ }
+{
+    let mut end = from;
+    let mut i: usize = 0;
+    while i < count {
+        let at = i * 5;
+        let next = make_room(out, end);
+        end = print::put_change(out, next, list[at], list[at + 1], list[at + 2], list[at + 3], list[at + 4]);
+        i += 1;
+    }
+    end
+}
+
+// A record's line, and the entries of its change list. "End" prints nothing.
+fn print_answer(out: &mut [u8], end: usize, place: u64, answer: Answer, list: &[u64]) -> usize
+    requires { ⌜ Room (now out) end ⌝ }
+    requires { ⌜ Listed answer (now list) ⌝ }
+    ensures { λ r. ⌜ Room (now (out .exit)) r ⌝ }
+{
+    match answer {
+        Answer::End => end,
+        Answer::Changed(count) => {
+            let at = make_room(out, end);
+            let next = print::put_line(out, at, place, answer);
+            print_changes(out, next, list, count as usize)
+        }
+        _ => {
+            let at = make_room(out, end);
+            print::put_line(out, at, place, answer)
+        }
+    }
+}
