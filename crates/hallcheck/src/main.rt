@@ -13,13 +13,20 @@ fn is_more() -> bool {
     io::read_full(0, &mut one) > 0
 }
 
+// Writes out what is in the buffer.
+fn write_out(out: &[u8], end: usize)
+    requires { ⌜ Room (now out) end ⌝ }
+{
+    io::write_all(1, &out[..end]);
+}
+
 // Makes room for a line: where there is too little, what is in the buffer is written out. Gives the place to go on at.
 fn make_room(out: &[u8], end: usize) -> usize
     requires { ⌜ Room (now out) end ⌝ }
     ensures { λ r. ⌜ r + 128 ≤ length (now (out .entry)) ⌝ }
 {
     if out.len() - end < print::ROOM {
-        io::write_all(1, &out[..end]);
+        write_out(out, end);
         return 0;
     }
     end
@@ -59,5 +66,41 @@ fn print_answer(out: &mut [u8], end: usize, place: u64, answer: Answer, list: &[
             let at = make_room(out, end);
             print::put_line(out, at, place, answer)
         }
+    }
+}
+
+// The lines of all records of the bytes, from a fresh box on.
+fn print_all(
+    bytes: &[u8],
+    fresh: Hall,
+    link: &mut [u16; 64],
+    rule: &mut [u64; 256],
+    cut: &mut [u64; 513],
+    number: &mut [u16; 512],
+    label: &mut [u64; 512],
+    owner: &mut [u16; 8192],
+    list: &mut [u64],
+    out: &mut [u8],
+)
+    requires { ⌜ Held (stateOf fresh (now link) (now rule) (now cut) (now number)) (now label) (now owner) ⌝ }
+    requires { ⌜ 2560 ≤ length (now list) ⌝ }
+    requires { ⌜ Room (now out) 0 ⌝ }
+{
+    let mut h = fresh;
+    let mut at: usize = 0;
+    let mut place: u64 = 0;
+    let mut end: usize = 0;
+    loop {
+        let rest = &bytes[at..];
+        let s = hall::take_record(rest, h, link, rule, cut, number, label, owner, list);
+        let answer = s.answer;
+        end = print_answer(out, end, place, answer, list);
+        if s.passed == 0 {
+            write_out(out, end);
+            return;
+        }
+        h = s.hall;
+        at += s.passed;
+        place += 1;
     }
 }
