@@ -1,5 +1,5 @@
 -- The loop over the records: what holds before each, and what a record leaves. Assumes nothing.
-use mathlib.Core.Path.{_≡_, sym, _∙_}
+use mathlib.Core.Path.{_≡_, sym, _∙_, subst}
 use mathlib.Core.List.{List}
 use Prim.Native.Nat.{ℕ, _+_, _-_, _≤_}
 use native.Mathlib.Omega.{arith}
@@ -7,7 +7,9 @@ use lib.ListN.{length, take, drop, length-drop}
 use lib.Seq.{length-take-le}
 use Rattle.meaning.specs.declared.Answer.{Answer}
 use Rattle.meaning.specs.declared.Answer.the-variants.{Changed}
-use Rattle.meaning.specs.Hall.{State}
+use Rattle.meaning.specs.Hall.{State, fresh}
+use Rattle.meaning.specs.Labels.{labelsOf, ownersOf}
+use Rattle.meaning.specs.Run.{start}
 use Rattle.meaning.specs.Questions.{byAddress}
 use Rattle.meaning.specs.Step.{stepOf}
 use Rattle.meaning.specs.Box.{Held, left, leftOf}
@@ -24,6 +26,10 @@ pub record Going (bytes : List ℕ) (m : State) (label owner list out : List ℕ
   pub slow : place ≤ at
   pub entries : 2560 ≤ length list
   pub room : Room out end
+
+-- a fresh box
+pub held-fresh : (m : State) (label owner : List ℕ) → m ≡ fresh → label ≡ labelsOf fresh → owner ≡ ownersOf fresh → Held m label owner
+held-fresh m label owner e l o = subst (λ (x : State). Held x label owner) (sym e) (record { came = start; labels = l; owners = o })
 
 -- the rest of the bytes is no longer than what is left of them
 rest-length : (bytes : List ℕ) (at : ℕ) → length (take (length bytes - at) (drop at bytes)) ≡ length bytes - at

@@ -43,7 +43,15 @@ fn print_changes(out: &mut [u8], from: usize, list: &[u64], count: usize) -> usi
     while i < count {
         let at = i * 5;
         let next = make_room(out, end);
-        end = print::put_change(out, next, list[at], list[at + 1], list[at + 2], list[at + 3], list[at + 4]);
+        end = print::put_change(
+            out,
+            next,
+            list[at],
+            list[at + 1],
+            list[at + 2],
+            list[at + 3],
+            list[at + 4],
+        );
         i += 1;
     }
     end
@@ -103,4 +111,46 @@ fn print_all(
         at += s.passed;
         place += 1;
     }
+}
+
+// Lends the tables, the change list and the output buffer.
+fn check(bytes: &[u8]) {
+    let mut link = [0u16; 64];
+    let mut rule = [0u64; 256];
+    let mut cut = [0u64; 513];
+    let mut number = [0u16; 512];
+    let mut label = [0u64; 512];
+    let mut owner = [0u16; 8192];
+    let mut list = [0u64; 2560];
+    let mut out = io::large_buffer();
+    let fresh = hall::clear_box(
+        &mut link,
+        &mut rule,
+        &mut cut,
+        &mut number,
+        &mut label,
+        &mut owner,
+    );
+    print_all(
+        bytes,
+        fresh,
+        &mut link,
+        &mut rule,
+        &mut cut,
+        &mut number,
+        &mut label,
+        &mut owner,
+        &mut list,
+        &mut out,
+    );
+}
+
+fn main() {
+    let mut input = io::large_buffer();
+    let n = io::read_full(0, &mut input);
+    if n == 65536 && is_more() {
+        io::write_all(1, b"long\n");
+        return;
+    }
+    check(&input[..n]);
 }

@@ -59,10 +59,11 @@ loop-again : tie.Need-loop-again Inv-loop μ-loop
 loop-again c =
     let a = c .before .before .before .before .before .before in
     let t = a .before .before .before .before .before in
-    let l = t .before .before .before .before .before .before .before .before .before .loop in
-    (goes _ _ _ _ _ _ _ _ _ (l .inv .0) _ _ _ _ _ _ (t .take-record .ensures) (a .before .before .before .before .list .given) _ _ (a .print-answer .ensures) (c .before .before .if1 .left),
-    a .before .before .before .before .list .given ∙ l .inv .1,
-    c .before .before .before .before .before .out .given ∙ l .inv .2)
+    let l = t .before .before .before .before .before .before .before .before .before .loop in (
+      goes _ _ _ _ _ _ _ _ _ (l .inv .0) _ _ _ _ _ _ (t .take-record .ensures) (a .before .before .before .before .list .given) _ _ (a .print-answer .ensures) (c .before .before .if1 .left),
+      a .before .before .before .before .list .given ∙ l .inv .1,
+      c .before .before .before .before .before .out .given ∙ l .inv .2,
+    )
 
 add-at : tie.Need-add-at Inv-loop μ-loop
 add-at c = let g = loop-again c .0 in omega (arith, g .inside, c .before .before .before .before .before .before .before .before .before .before .before .before .before .before .before .before .before .before .before .before .before .before .before .before .good .0)
