@@ -1,3 +1,4 @@
 -- The laws behind the printing: one text after another, and the digits of a number.
 mod Writes
 mod Digits
+mod Fields

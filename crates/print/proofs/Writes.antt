@@ -1,11 +1,12 @@
 -- Writing one text after another writes the two joined. Assumes nothing.
 use mathlib.Core.Path.{_≡_, refl, sym, ap, _∙_, subst}
 use mathlib.Core.List.{List, [], _∷_, _++_}
-use Prim.Native.Nat.{ℕ, zero, suc, _+_, _≤_}
+use Prim.Native.Nat.{ℕ, zero, suc, _+_, _≤_, _<_}
 use native.Mathlib.Nat.{add-zero, add-suc, suc-add}
 use native.Mathlib.Omega.{arith}
-use lib.ListN.{length, set, length-append}
-use lib.Seq.{sets, length-sets}
+use native.Mathlib.Numerals.{add-one}
+use lib.ListN.{length, set, getD, take, length-append, length-set}
+use lib.Seq.{sets, take-suc, take-length}
 use Rattle.print.specs.Text.{Wrote}
 
 -- stores of one text and then of another just behind it
@@ -45,3 +46,27 @@ short h w = record {
   kept = w .kept;
   near = omega (arith, w .moved);
 }
+
+-- one byte more of a text that is copied byte by byte
+pub copied : (text old buf : List ℕ) (at i : ℕ) → i < length text → Wrote i (take i text) old buf at (at + i)
+    → Wrote (i + 1) (take (i + 1) text) old (set buf (at + i) (getD text i 0)) at (at + (i + 1))
+copied text old buf at i h w =
+    let x = getD text i 0 in
+    let store : Wrote 1 (x ∷ []) buf (set buf (at + i) x) (at + i) (at + (i + 1)) = record {
+      bytes = refl;
+      moved = omega arith;
+      kept = length-set buf (at + i) x;
+      near = omega arith;
+    } in
+    also (sym (ap (λ (k : ℕ). take k text) (add-one i) ∙ take-suc text i 0 h)) (omega arith) (both w store)
+
+-- before the first byte
+pub none : {old : List ℕ} {at : ℕ} → Wrote 0 [] old old at (at + 0)
+none = record { bytes = refl; moved = refl; kept = refl; near = omega arith }
+
+-- and after the last
+pub whole : (text old buf : List ℕ) (at i : ℕ) → i ≤ length text → length text ≤ i → Wrote i (take i text) old buf at (at + i)
+    → Wrote (length text) text old buf at (at + length text)
+whole text old buf at i h h′ w =
+    let e : i ≡ length text = omega arith in
+    also (take-length text) (omega arith) (rw e at w)

@@ -1,7 +1,9 @@
 // Text into a lent buffer: numbers in decimal, and the lines that `hallcheck` prints.
+mod line;
 mod number;
 
-pub use number::put_number;
+pub use line::put_change;
+pub use line::put_line;
 
-// The most bytes that a line has: each function here asks for so much room.
+// The most bytes that a line has: so much room a line asks for.
 pub const ROOM: usize = 128;

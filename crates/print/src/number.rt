@@ -14,6 +14,19 @@ pub fn put_byte(buf: &mut [u8], at: usize, b: u8) -> usize
     at + 1
 }
 
+// A text.
+pub fn put_text(buf: &mut [u8], at: usize, text: &[u8]) -> usize
+    requires { ⌜ at + length (now text) ≤ length (now buf) ⌝ }
+    ensures { λ r. ⌜ Wrote (length (now (text .entry))) (now (text .entry)) (now (buf .entry)) (now (buf .exit)) at r ⌝ }
+{
+    let mut i = 0;
+    while i < text.len() {
+        buf[at + i] = text[i];
+        i += 1;
+    }
+    at + text.len()
+}
+
 // The two digits of a number below 100.
 fn put_pair(buf: &mut [u8], at: usize, n: u32) -> usize
     requires { ⌜ at + 2 ≤ length (now buf) ⌝ }

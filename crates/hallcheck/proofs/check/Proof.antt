@@ -1,0 +1,39 @@
+-- `hallcheck::check` meets its contract: the box is fresh. Assumes nothing.
+use borrow.Author.Needs.{needs}
+use Rattle.hallcheck.proofs.Going.{held-fresh}
+use Rattle.hallcheck.proofs.check.Statement.{statement}
+use Rattle.hallcheck.proofs.check.Tie as tie
+use Rattle.hallcheck.proofs.check.Reads as reads
+use Rattle.hallcheck.proofs.check.Lts as lts
+use Rattle.hall.proofs.clear_box.Reads as clear-box-reads
+use Rattle.hallcheck.proofs.print_all.Reads as print-all-reads
+use Rattle.io.proofs.large_buffer.Reads as large-buffer-reads
+
+large-buffer-requires : tie.Need-large-buffer-requires
+large-buffer-requires c κs = search needs
+
+clear-box-requires : tie.Need-clear-box-requires
+clear-box-requires c κs = search needs
+
+slice-aggregate-print-all : tie.Need-slice-aggregate-print-all
+slice-aggregate-print-all c = search needs
+
+slice-aggregate-print-all-2 : tie.Need-slice-aggregate-print-all-2
+slice-aggregate-print-all-2 c = search needs
+
+print-all-requires : tie.Need-print-all-requires
+print-all-requires c κs = (search (needs, held-fresh), (search needs, search needs))
+
+returns : tie.Need-returns
+returns c = search needs
+
+pub check-spec : {M : Type 1} → statement M
+check-spec =
+    tie.close
+    (tie.spec
+    large-buffer-requires
+    clear-box-requires
+    slice-aggregate-print-all
+    slice-aggregate-print-all-2
+    print-all-requires
+    returns)

@@ -1,0 +1,20 @@
+-- `hallcheck::write_out` meets its contract. Assumes nothing.
+use borrow.Author.Needs.{needs}
+use lib.Seq.{length-take-le}
+use Rattle.hallcheck.proofs.write_out.Statement.{statement}
+use Rattle.hallcheck.proofs.write_out.Tie as tie
+use Rattle.hallcheck.proofs.write_out.Reads as reads
+use Rattle.hallcheck.proofs.write_out.Lts as lts
+use Rattle.io.proofs.write_all.Reads as write-all-reads
+
+slice-aggregate-write-all : tie.Need-slice-aggregate-write-all
+slice-aggregate-write-all c = search (needs, length-take-le)
+
+write-all-requires : tie.Need-write-all-requires
+write-all-requires c κs = search needs
+
+returns : tie.Need-returns
+returns c = search needs
+
+pub write-out-spec : {M : Type 1} → statement M
+write-out-spec = tie.close (tie.spec slice-aggregate-write-all write-all-requires returns)

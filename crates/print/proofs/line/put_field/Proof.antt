@@ -1,0 +1,26 @@
+-- `print::line::put_field` meets its contract. Assumes nothing.
+use borrow.Author.Needs.{needs}
+use Rattle.print.proofs.Writes.{both}
+use Rattle.print.proofs.line.put_field.Statement.{statement}
+use Rattle.print.proofs.line.put_field.Tie as tie
+use Rattle.print.proofs.line.put_field.Reads as reads
+use Rattle.print.proofs.line.put_field.Lts as lts
+use Rattle.print.proofs.number.put_byte.Reads as put-byte-reads
+use Rattle.print.proofs.number.put_number.Reads as put-number-reads
+
+put-number-requires : tie.Need-put-number-requires
+put-number-requires c κs = search needs
+
+put-byte-requires : tie.Need-put-byte-requires
+put-byte-requires c κs = search needs
+
+same-length : tie.Need-same-length
+same-length c = search needs
+
+returns : tie.Need-returns
+returns c =
+    let d = c .before .before in
+    both (d .before .before .before .before .put-number .ensures) (d .put-byte .ensures)
+
+pub put-field-spec : {M : Type 1} → statement M
+put-field-spec = tie.close (tie.spec put-number-requires put-byte-requires same-length returns)

@@ -1,0 +1,54 @@
+-- `print::line::put_link` meets its contract. Assumes nothing.
+use borrow.Author.Needs.{needs}
+use mathlib.Core.Path.{sym, ap}
+use mathlib.Core.List.{List, [], _∷_, _++_}
+use Prim.Native.Nat.{ℕ}
+use native.Mathlib.Omega.{arith}
+use Rattle.print.proofs.Writes.{both, also}
+use Rattle.print.proofs.Fields.{no-link, some-link}
+use Rattle.print.proofs.line.put_link.Statement.{statement}
+use Rattle.print.proofs.line.put_link.Tie as tie
+use Rattle.print.proofs.line.put_link.Reads as reads
+use Rattle.print.proofs.line.put_link.Lts as lts
+use Rattle.print.proofs.line.put_field.Reads as put-field-reads
+use Rattle.print.proofs.number.put_byte.Reads as put-byte-reads
+
+put-byte-requires : tie.Need-put-byte-requires
+put-byte-requires c κs = search needs
+
+put-byte-requires-2 : tie.Need-put-byte-requires-2
+put-byte-requires-2 c κs = search needs
+
+same-length : tie.Need-same-length
+same-length c = search needs
+
+returns : tie.Need-returns
+returns c =
+    let d = c .before .before in
+    let s = d .before .before .before .before .before .before .before .before in
+    also (ap (λ (t : List ℕ). t ++ (s .args .after ∷ [])) (sym (no-link (s .args .link) (d .before .before .before .before .before .before .if1 .taken)))) (omega arith)
+    (both (d .before .before .before .before .put-byte .ensures) (d .put-byte2 .ensures))
+
+put-field-requires : tie.Need-put-field-requires
+put-field-requires c κs = search needs
+
+same-length-2 : tie.Need-same-length-2
+same-length-2 c = search needs
+
+returns-2 : tie.Need-returns-2
+returns-2 c =
+    let d = c .before .before in
+    let s = d .before .before .before .before in
+    also (ap (λ (t : List ℕ). t ++ (s .args .after ∷ [])) (sym (some-link (s .args .link) (d .before .before .if1 .left)))) (omega arith) (d .put-field .ensures)
+
+pub put-link-spec : {M : Type 1} → statement M
+put-link-spec =
+    tie.close
+    (tie.spec
+    put-byte-requires
+    put-byte-requires-2
+    same-length
+    returns
+    put-field-requires
+    same-length-2
+    returns-2)

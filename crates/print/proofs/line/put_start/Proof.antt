@@ -1,0 +1,26 @@
+-- `print::line::put_start` meets its contract. Assumes nothing.
+use borrow.Author.Needs.{needs}
+use Rattle.print.proofs.Writes.{both}
+use Rattle.print.proofs.line.put_start.Statement.{statement}
+use Rattle.print.proofs.line.put_start.Tie as tie
+use Rattle.print.proofs.line.put_start.Reads as reads
+use Rattle.print.proofs.line.put_start.Lts as lts
+use Rattle.print.proofs.number.put_number.Reads as put-number-reads
+use Rattle.print.proofs.number.put_text.Reads as put-text-reads
+
+put-number-requires : tie.Need-put-number-requires
+put-number-requires c κs = search needs
+
+put-text-requires : tie.Need-put-text-requires
+put-text-requires c κs = search needs
+
+same-length : tie.Need-same-length
+same-length c = search needs
+
+returns : tie.Need-returns
+returns c =
+    let d = c .before .before in
+    both (d .before .before .before .before .put-number .ensures) (d .put-text .ensures)
+
+pub put-start-spec : {M : Type 1} → statement M
+put-start-spec = tie.close (tie.spec put-number-requires put-text-requires same-length returns)

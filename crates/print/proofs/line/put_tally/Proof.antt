@@ -1,0 +1,59 @@
+-- `print::line::put_tally` meets its contract. Assumes nothing.
+use borrow.Author.Needs.{needs}
+use mathlib.Core.Path.{refl}
+use mathlib.Core.List.{[], _∷_}
+use native.Mathlib.Omega.{arith}
+use Rattle.meaning.specs.Answers.{said}
+use Rattle.print.specs.Text.{decimal}
+use Rattle.print.specs.Lines.{bytes, line, word, values}
+use Rattle.print.proofs.Writes.{also}
+use Rattle.print.proofs.Fields.{join}
+use Rattle.print.proofs.line.put_tally.Statement.{statement}
+use Rattle.print.proofs.line.put_tally.Tie as tie
+use Rattle.print.proofs.line.put_tally.Reads as reads
+use Rattle.print.proofs.line.put_tally.Lts as lts
+use Rattle.print.proofs.line.put_field.Reads as put-field-reads
+use Rattle.print.proofs.line.put_start.Reads as put-start-reads
+
+slice-aggregate-put-start : tie.Need-slice-aggregate-put-start
+slice-aggregate-put-start c = search needs
+
+put-start-requires : tie.Need-put-start-requires
+put-start-requires c κs = search needs
+
+put-field-requires : tie.Need-put-field-requires
+put-field-requires c κs = search needs
+
+put-field-requires-2 : tie.Need-put-field-requires-2
+put-field-requires-2 c κs = search needs
+
+put-field-requires-3 : tie.Need-put-field-requires-3
+put-field-requires-3 c κs = search needs
+
+same-length : tie.Need-same-length
+same-length c = search needs
+
+returns : tie.Need-returns
+unfolding line word values said
+returns c =
+    let d₄ = c .before .before in
+    let d₃ = d₄ .before .before .before .before in
+    let d₂ = d₃ .before .before .before .before in
+    let d₁ = d₂ .before .before .before .before in
+    let a = d₁ .before .before .before .before .args in
+    also refl (omega arith)
+    (join (decimal (a .place)) (bytes " tally ") (d₁ .put-start .ensures)
+    (join (decimal (a .a)) (32 ∷ []) (d₂ .put-field .ensures)
+    (join (decimal (a .b)) (32 ∷ []) (d₃ .put-field2 .ensures) (d₄ .put-field3 .ensures))))
+
+pub put-tally-spec : {M : Type 1} → statement M
+put-tally-spec =
+    tie.close
+    (tie.spec
+    slice-aggregate-put-start
+    put-start-requires
+    put-field-requires
+    put-field-requires-2
+    put-field-requires-3
+    same-length
+    returns)
