@@ -159,13 +159,31 @@ pub record Accepts (m : State) (room : ℕ) (s : List ℕ) (i : ℕ) : Type 0 wh
   pub count : ℕ
   pub ok : stepOf m room s .answer ≡ Changed count
 
+-- the step accepts a hall, a link or a close
+pub record Takes (m : State) (room : ℕ) (s : List ℕ) (r : Record) : Type 0 where
+  pub record-is : recordOf s ≡ r
+  pub ok : stepOf m room s .answer ≡ Ok
+
+-- on the way by which a state came, a hall of n nodes was accepted
+unfoldable pub HasNodes : {m : State} → Came m → ℕ → Type 0
+HasNodes start n = ⊥
+HasNodes (more {m = m} room s c) n = Takes m room s (hall n) ⊎ HasNodes c n
+
+-- and, when there were l links, a link with source a and the end e of code k: its number is e for a node, 256 + e for a port, 512 for the drop
+unfoldable pub HasLink : {m : State} → Came m → ℕ → ℕ → ℕ → ℕ → Type 0
+HasLink start l a k e = ⊥
+HasLink (more {m = m} room s c) l a k e = ((m .links ≡ l) × Takes m room s (link a k e)) ⊎ HasLink c l a k e
+
 -- on the way by which a state came, rule i was inserted with link l, prefix p, length n and priority t, and no update of rule i was accepted since
 unfoldable pub InForce : {m : State} → Came m → ℕ → ℕ → ℕ → ℕ → ℕ → Type 0
 InForce start i l p n t = ⊥
 InForce (more {m = m} room s c) i l p n t = (Accepts m room s i × (recordOf s ≡ insert i l p n t)) ⊎ (InForce c i l p n t × (Accepts m room s i → ⊥))
 
 pub record Demand2 : Type 0 where
-  -- "after any updates": what is live is what was inserted and not removed since, with its parts
+  -- "after any updates": the hall and the links are those declared; what is live is what was inserted and not removed since, with its parts
+  pub hall-is : {m : State} (c : Came m) (n : ℕ) → HasNodes c n ↔ ((0 < m .phase) × (m .nodes ≡ n))
+  pub link-is : {m : State} (c : Came m) (l a k e : ℕ) → HasLink c l a k e → (l < m .links) × (sourceOf m l ≡ a) × (endOf m l ≡ k * 256 + e)
+  pub linked : {m : State} (c : Came m) (l : ℕ) → l < m .links → (a k e : ℕ) × HasLink c l a k e
   pub rules : {m : State} (c : Came m) (i l p n t : ℕ) → InForce c i l p n t ↔ Stored m i l p n t
   -- "the atoms cover each address once"
   pub covers : {m : State} → Came m → (a : ℕ) → a < top → (k : ℕ) × InAtom m k a

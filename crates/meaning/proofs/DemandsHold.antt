@@ -34,6 +34,7 @@ use Rattle.meaning.proofs.Exchange.{winner-same}
 use Rattle.meaning.proofs.Demands.{checks, Stands, Demand1, Names, Asks, Demand2, Demand3}
 use Rattle.meaning.proofs.Taking.{end-is, asked-passes, asked-is}
 use Rattle.meaning.proofs.Outcomes.{outcome, outcome-once}
+use Rattle.meaning.proofs.Declared.{has-nodes, link-stands, link-declared}
 use Rattle.meaning.proofs.Standing.{in-force}
 use Rattle.meaning.proofs.Twins.{twin-rules, twin-links, fates-same, same-asked}
 use Rattle.meaning.proofs.Spread.{changes-listed, same-listed}
@@ -128,6 +129,9 @@ module _ (m : State) (c : Came m) where
 
 pub demand-2 : Demand2
 demand-2 = record {
+  hall-is = λ {m} c. has-nodes m c;
+  link-is = λ {m} c. link-stands m c;
+  linked = λ {m} c. link-declared m c;
   rules = λ {m} c. in-force m c;
   covers = λ {m} c. covered m c;
   once = λ {m} c. covered-once m c;

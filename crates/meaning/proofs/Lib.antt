@@ -4,6 +4,7 @@ pub mod Demands
 pub mod DemandsHold
 -- then the laws that a reader looks for, in the document's order:
 pub mod Winners
+pub mod Declared
 pub mod Standing
 pub mod Covering
 pub mod Boundaries
