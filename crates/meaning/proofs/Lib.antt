@@ -2,6 +2,7 @@
 -- First the three demands, and that they hold:
 pub mod Demands
 pub mod DemandsHold
+pub mod Example
 -- then the laws that a reader looks for, in the document's order:
 pub mod Winners
 pub mod Declared
