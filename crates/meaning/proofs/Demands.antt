@@ -2,12 +2,12 @@
 -- From the files of the laws only types are taken. Assumes nothing: these are statements.
 use mathlib.Core.Path.{_≡_}
 use mathlib.Core.Logic.{_↔_, _⊎_}
-use mathlib.Core.Bool.{Bool, true, false, _&&_, _||_}
+use mathlib.Core.Bool.{true, false, _&&_, _||_}
 use mathlib.Core.Option.{Option, none, some}
 use mathlib.Core.List.{List, [], _∷_}
 use Prim.Native.Nat.{ℕ, _+_, _-_, _*_, _%_, _^_, _≤_, _<_}
 use lib.Dec.{ltb, eqb}
-use lib.ListN.{length, getD}
+use lib.ListN.{length}
 use Rattle.meaning.specs.declared.Fate.{Fate}
 use Rattle.meaning.specs.declared.Answer.{Answer}
 use Rattle.meaning.specs.declared.Answer.the-variants.{End, Refused, Ok, Changed, Loop, NoLoop, Went, Yes, No, Tally}
@@ -20,16 +20,16 @@ use Rattle.meaning.specs.Winner.{ruleAt, winner, nextAt}
 use Rattle.meaning.specs.Atoms.{isCut}
 use Rattle.meaning.specs.Labels.{on, labelsOf, ownersOf}
 use Rattle.meaning.specs.Changes.{linkOrNone}
-use Rattle.meaning.specs.Walk.{at, after}
 use Rattle.meaning.specs.Questions.{isOut, isLost, isRound, fateOf}
 use Rattle.meaning.specs.Records.{bodyOf, recordOf, phaseOf}
 use Rattle.meaning.specs.Step.{Done, nodeOf, stepOf}
 use Rattle.meaning.specs.Run.{runOf, Came, start, more}
 use Rattle.meaning.specs.Box.{Left, leftOf}
-use Rattle.meaning.proofs.Walks.{Never, OnCircle, IsFate}
+use Rattle.meaning.proofs.Walks.{OnCircle, IsFate}
 use Rattle.meaning.proofs.Searches.{Lowest}
 use Rattle.meaning.proofs.Winners.{Serves, Outranks, Stored}
 use Rattle.meaning.proofs.Covering.{InAtom}
+use Rattle.meaning.proofs.Asked.{Loops, Comes}
 use Rattle.meaning.proofs.Steps.{isQuestion}
 use Rattle.meaning.proofs.Stops.{Stops, Runs}
 
@@ -132,14 +132,6 @@ pub record Demand1 : Type 0 where
 abbrev pub Names : State → ℕ → ℕ → ℕ → Type 0
 Names m v a l = (w : ℕ) × Outranks m v a w × (linkOf (ruleAt m w) ≡ l)
 
--- address a goes round: its walk from some node never ends
-abbrev pub GoesRound : State → ℕ → Type 0
-GoesRound m a = (v : ℕ) × (v < m .nodes) × Never (nextAt m a) (endOf m) (at v)
-
--- the walk of a packet to address a from node v stands at node w at some time, the start counted
-abbrev pub ComesTo : State → ℕ → ℕ → ℕ → Type 0
-ComesTo m v w a = (k : ℕ) × (after (nextAt m a) (endOf m) k (at v) ≡ at w)
-
 -- the bytes s ask r, and r is not refused
 pub record Asks (m : State) (room : ℕ) (s : List ℕ) (r : Record) : Type 0 where
   pub record-is : recordOf s ≡ r
@@ -167,13 +159,31 @@ pub record Accepts (m : State) (room : ℕ) (s : List ℕ) (i : ℕ) : Type 0 wh
   pub count : ℕ
   pub ok : stepOf m room s .answer ≡ Changed count
 
+-- the step accepts a hall, a link or a close
+pub record Takes (m : State) (room : ℕ) (s : List ℕ) (r : Record) : Type 0 where
+  pub record-is : recordOf s ≡ r
+  pub ok : stepOf m room s .answer ≡ Ok
+
+-- on the way by which a state came, a hall of n nodes was accepted
+unfoldable pub HasNodes : {m : State} → Came m → ℕ → Type 0
+HasNodes start n = ⊥
+HasNodes (more {m = m} room s c) n = Takes m room s (hall n) ⊎ HasNodes c n
+
+-- and, when there were l links, a link with source a and the end e of code k: its number is e for a node, 256 + e for a port, 512 for the drop
+unfoldable pub HasLink : {m : State} → Came m → ℕ → ℕ → ℕ → ℕ → Type 0
+HasLink start l a k e = ⊥
+HasLink (more {m = m} room s c) l a k e = ((m .links ≡ l) × Takes m room s (link a k e)) ⊎ HasLink c l a k e
+
 -- on the way by which a state came, rule i was inserted with link l, prefix p, length n and priority t, and no update of rule i was accepted since
 unfoldable pub InForce : {m : State} → Came m → ℕ → ℕ → ℕ → ℕ → ℕ → Type 0
 InForce start i l p n t = ⊥
 InForce (more {m = m} room s c) i l p n t = (Accepts m room s i × (recordOf s ≡ insert i l p n t)) ⊎ (InForce c i l p n t × (Accepts m room s i → ⊥))
 
 pub record Demand2 : Type 0 where
-  -- "after any updates": what is live is what was inserted and not removed since, with its parts
+  -- "after any updates": the hall and the links are those declared; what is live is what was inserted and not removed since, with its parts
+  pub hall-is : {m : State} (c : Came m) (n : ℕ) → HasNodes c n ↔ ((0 < m .phase) × (m .nodes ≡ n))
+  pub link-is : {m : State} (c : Came m) (l a k e : ℕ) → HasLink c l a k e → (l < m .links) × (sourceOf m l ≡ a) × (endOf m l ≡ k * 256 + e)
+  pub linked : {m : State} (c : Came m) (l : ℕ) → l < m .links → (a k e : ℕ) × HasLink c l a k e
   pub rules : {m : State} (c : Came m) (i l p n t : ℕ) → InForce c i l p n t ↔ Stored m i l p n t
   -- "the atoms cover each address once"
   pub covers : {m : State} → Came m → (a : ℕ) → a < top → (k : ℕ) × InAtom m k a
@@ -183,18 +193,18 @@ pub record Demand2 : Type 0 where
   pub labels : {m : State} → Came m → (l k : ℕ) → l < m .links → k < m .atoms → (on (labelsOf m) l k ≡ true) ↔ ((a : ℕ) → InAtom m k a → Names m (sourceOf m l) a l)
   -- "a loop is reported exactly when some address goes round"
   pub reported : {m : State} → Came m → (room : ℕ) (s : List ℕ) → Asks m room s loop
-      → ((a v : ℕ) × (stepOf m room s .answer ≡ Loop a v)) ↔ ((a : ℕ) × (a < top) × GoesRound m a)
+      → ((a v : ℕ) × (stepOf m room s .answer ≡ Loop a v)) ↔ ((a : ℕ) × (a < top) × Loops m a)
   pub unreported : {m : State} → Came m → (room : ℕ) (s : List ℕ) → Asks m room s loop
-      → (stepOf m room s .answer ≡ NoLoop) ↔ ((a : ℕ) → a < top → GoesRound m a → ⊥)
+      → (stepOf m room s .answer ≡ NoLoop) ↔ ((a : ℕ) → a < top → Loops m a → ⊥)
   -- "with the lowest such address (and the lowest node on one of its circles)"
   pub witness : {m : State} → Came m → (room : ℕ) (s : List ℕ) (a v : ℕ) → Asks m room s loop → stepOf m room s .answer ≡ Loop a v
-      → Lowest top (GoesRound m) a × Lowest (m .nodes) (OnCircle (nextAt m a) (endOf m)) v
+      → Lowest top (Loops m) a × Lowest (m .nodes) (OnCircle (nextAt m a) (endOf m)) v
   -- the walk and the other questions: "At a node it takes the winner's link"; fate, reach and tally
   pub way : {m : State} → Came m → (v a l : ℕ) → (nextAt m a v ≡ some l) ↔ Names m v a l
   pub fate-is : {m : State} → Came m → (v a : ℕ) → v < m .nodes → (f : Fate) → (fateOf m v a ≡ f) ↔ IsFate (nextAt m a) (endOf m) v f
   pub fate-told : {m : State} → Came m → (room : ℕ) (s : List ℕ) (v a : ℕ) → Asks m room s (fate v a) → stepOf m room s .answer ≡ Went (fateOf m v a)
-  pub reach-yes : {m : State} → Came m → (room : ℕ) (s : List ℕ) (v w : ℕ) → Asks m room s (reach v w) → (a : ℕ) → (stepOf m room s .answer ≡ Yes a) ↔ Lowest top (ComesTo m v w) a
-  pub reach-no : {m : State} → Came m → (room : ℕ) (s : List ℕ) (v w : ℕ) → Asks m room s (reach v w) → (stepOf m room s .answer ≡ No) ↔ ((a : ℕ) → a < top → ComesTo m v w a → ⊥)
+  pub reach-yes : {m : State} → Came m → (room : ℕ) (s : List ℕ) (v w : ℕ) → Asks m room s (reach v w) → (a : ℕ) → (stepOf m room s .answer ≡ Yes a) ↔ Lowest top (Comes m v w) a
+  pub reach-no : {m : State} → Came m → (room : ℕ) (s : List ℕ) (v w : ℕ) → Asks m room s (reach v w) → (stepOf m room s .answer ≡ No) ↔ ((a : ℕ) → a < top → Comes m v w a → ⊥)
   pub tally-told : {m : State} → Came m → (room : ℕ) (s : List ℕ) (v : ℕ) → Asks m room s (tally v)
       → stepOf m room s .answer ≡ Tally (countBelow top (λ a. isOut (fateOf m v a))) (countBelow top (λ a. isLost (fateOf m v a))) (countBelow top (λ a. isRound (fateOf m v a)))
 

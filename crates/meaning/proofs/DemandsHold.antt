@@ -4,13 +4,12 @@ use mathlib.Core.Logic.{_↔_, _⊎_, inl, inr, ⊎-elim}
 use mathlib.Core.Bool.{Bool, true, false}
 use mathlib.Core.Option.{Option, none, some}
 use mathlib.Core.List.{List}
-use Prim.Native.Nat.{ℕ, _+_, _≤_, _<_}
+use Prim.Native.Nat.{ℕ, _<_}
 use native.Mathlib.Omega.{arith}
-use lib.Dec.{leb, ltb}
+use lib.Dec.{ltb}
 use lib.ListN.{length}
 use borrow.Author.Tests.{ltb-true, lt-ltb, leb-false}
-use Rattle.meaning.specs.declared.Answer.{Answer}
-use Rattle.meaning.specs.declared.Answer.the-variants.{Refused, Loop, NoLoop, Went, Yes, No, Tally}
+use Rattle.meaning.specs.declared.Answer.the-variants.{Refused, Loop, NoLoop, Went, Yes, No}
 use Rattle.meaning.specs.declared.Record.the-variants.{Loop as loop, Fate as fate, Reach as reach, Tally as tally}
 use Rattle.meaning.specs.Search.{pick, lowestBelow}
 use Rattle.meaning.specs.Hall.{top, State, sourceOf, endOf}
@@ -25,16 +24,17 @@ use Rattle.meaning.proofs.Sound.{when-none}
 use Rattle.meaning.proofs.Kept.{sound}
 use Rattle.meaning.proofs.Walks.{OnCircle}
 use Rattle.meaning.proofs.Searches.{Lowest}
-use Rattle.meaning.proofs.Winners.{Outranks, winner-is}
+use Rattle.meaning.proofs.Winners.{winner-is}
 use Rattle.meaning.proofs.Covering.{InAtom, covered, covered-once, covered-only, numbered, on-words}
 use Rattle.meaning.proofs.Fates.{fate-exact}
-use Rattle.meaning.proofs.Asked.{loop-some, loop-none, reach-yes, reach-no, tally-counts}
+use Rattle.meaning.proofs.Asked.{Loops, Comes, loop-some, loop-none, reach-yes, reach-no, tally-counts}
 use Rattle.meaning.proofs.Steps.{isOk, isQuestion, quiet-left}
 use Rattle.meaning.proofs.Stops.{runs, run-stops}
 use Rattle.meaning.proofs.Exchange.{winner-same}
-use Rattle.meaning.proofs.Demands.{checks, Stands, Demand1, Names, GoesRound, ComesTo, Asks, Demand2, Demand3}
+use Rattle.meaning.proofs.Demands.{checks, Stands, Demand1, Names, Asks, Demand2, Demand3}
 use Rattle.meaning.proofs.Taking.{end-is, asked-passes, asked-is}
 use Rattle.meaning.proofs.Outcomes.{outcome, outcome-once}
+use Rattle.meaning.proofs.Declared.{has-nodes, link-stands, link-declared}
 use Rattle.meaning.proofs.Standing.{in-force}
 use Rattle.meaning.proofs.Twins.{twin-rules, twin-links, fates-same, same-asked}
 use Rattle.meaning.proofs.Spread.{changes-listed, same-listed}
@@ -97,16 +97,16 @@ module _ (m : State) (c : Came m) where
     loop-is : Asks m room s loop → stepOf m room s .answer ≡ byAddress m loop
     loop-is A = asked-is m room s loop A (unfold isQuestion in refl)
 
-    loop-found : Asks m room s loop → ((a v : ℕ) × (stepOf m room s .answer ≡ Loop a v)) ↔ ((a : ℕ) × (a < top) × GoesRound m a)
+    loop-found : Asks m room s loop → ((a v : ℕ) × (stepOf m room s .answer ≡ Loop a v)) ↔ ((a : ℕ) × (a < top) × Loops m a)
     loop-found A = (
       λ x. let y = loop-some m c (x .0) (x .1) .0 (sym (loop-is A) ∙ x .2) in (x .0, y .0 .within, y .0 .has),
       λ x. ⊎-elim (λ y. (y .0, y .1, loop-is A ∙ y .2)) (λ (e : byAddress m loop ≡ NoLoop). absurd (loop-none m c .0 e (x .0) (x .1) (x .2))) loop-or-none,
     )
 
-    no-loop : Asks m room s loop → (stepOf m room s .answer ≡ NoLoop) ↔ ((a : ℕ) → a < top → GoesRound m a → ⊥)
+    no-loop : Asks m room s loop → (stepOf m room s .answer ≡ NoLoop) ↔ ((a : ℕ) → a < top → Loops m a → ⊥)
     no-loop A = (λ e. loop-none m c .0 (sym (loop-is A) ∙ e), λ f. loop-is A ∙ loop-none m c .1 f)
 
-    loop-lowest : (a v : ℕ) → Asks m room s loop → stepOf m room s .answer ≡ Loop a v → Lowest top (GoesRound m) a × Lowest (m .nodes) (OnCircle (nextAt m a) (endOf m)) v
+    loop-lowest : (a v : ℕ) → Asks m room s loop → stepOf m room s .answer ≡ Loop a v → Lowest top (Loops m) a × Lowest (m .nodes) (OnCircle (nextAt m a) (endOf m)) v
     loop-lowest a v A e = loop-some m c a v .0 (sym (loop-is A) ∙ e)
 
     fate-asked : (v a : ℕ) → Asks m room s (fate v a) → stepOf m room s .answer ≡ Went (fateOf m v a)
@@ -121,14 +121,17 @@ module _ (m : State) (c : Came m) where
       unfolding refusal
       from-node = leb-false (m .nodes) v (when-none _ _ _ (asked-passes m room s (reach v w) A (unfold isQuestion in refl)) .0)
 
-      reach-found : (a : ℕ) → (stepOf m room s .answer ≡ Yes a) ↔ Lowest top (ComesTo m v w) a
+      reach-found : (a : ℕ) → (stepOf m room s .answer ≡ Yes a) ↔ Lowest top (Comes m v w) a
       reach-found a = let y = reach-yes m c v w from-node a in (λ e. y .0 (sym reach-is ∙ e), λ x. reach-is ∙ y .1 x)
 
-      no-reach : (stepOf m room s .answer ≡ No) ↔ ((a : ℕ) → a < top → ComesTo m v w a → ⊥)
+      no-reach : (stepOf m room s .answer ≡ No) ↔ ((a : ℕ) → a < top → Comes m v w a → ⊥)
       no-reach = let y = reach-no m c v w from-node in (λ e. y .0 (sym reach-is ∙ e), λ x. reach-is ∙ y .1 x)
 
 pub demand-2 : Demand2
 demand-2 = record {
+  hall-is = λ {m} c. has-nodes m c;
+  link-is = λ {m} c. link-stands m c;
+  linked = λ {m} c. link-declared m c;
   rules = λ {m} c. in-force m c;
   covers = λ {m} c. covered m c;
   once = λ {m} c. covered-once m c;

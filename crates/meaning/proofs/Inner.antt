@@ -1,11 +1,10 @@
 -- Check 13 counts what the document counts: the inner boundaries that would exist. Assumes nothing.
-use mathlib.Core.Path.{_≡_, refl, sym, ap, ap₂, _∙_}
-use mathlib.Core.Logic.{_⊎_, inl, inr, ⊎-elim}
+use mathlib.Core.Path.{_≡_, refl, sym, ap, _∙_}
+use mathlib.Core.Logic.{⊎-elim}
 use mathlib.Core.Bool.{Bool, true, false, not, _&&_, _||_, true≢false}
 use mathlib.Core.List.{List}
 use Prim.Native.Nat.{ℕ, zero, suc, _+_, _-_, _^_, _≤_, _<_}
 use native.Mathlib.Nat.{add-zero, add-suc}
-use native.Mathlib.Decide.{ℕ-discrete}
 use native.Mathlib.Omega.{arith}
 use lib.Dec.{ltb, eqb}
 use lib.Pow.{pow-pos}
@@ -16,7 +15,7 @@ use Rattle.meaning.specs.Hall.{top, State}
 use Rattle.meaning.specs.Rule.{lower, upper}
 use Rattle.meaning.specs.Atoms.{isCut}
 use Rattle.meaning.specs.Step.{added}
-use Rattle.meaning.proofs.Tables.{Cuts, Boundary}
+use Rattle.meaning.proofs.Tables.{Cuts}
 use Rattle.meaning.proofs.Places.{le-or-lt, Order, less, same, more, order, cut-le}
 use Rattle.meaning.proofs.Parted.{is-boundary, boundary-is}
 use Rattle.meaning.proofs.Below.{count-same, count-front}

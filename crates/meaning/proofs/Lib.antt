@@ -2,8 +2,10 @@
 -- First the three demands, and that they hold:
 pub mod Demands
 pub mod DemandsHold
+pub mod Example
 -- then the laws that a reader looks for, in the document's order:
 pub mod Winners
+pub mod Declared
 pub mod Standing
 pub mod Covering
 pub mod Boundaries

@@ -5,29 +5,27 @@ use mathlib.Core.Logic.{_↔_, _⊎_, inl, inr, ⊎-elim}
 use mathlib.Core.Bool.{Bool, true, false, not, _&&_, _||_, true≢false}
 use mathlib.Core.Option.{Option, none, some}
 use mathlib.Core.List.{List, [], _∷_}
-use Prim.Native.Nat.{ℕ, _+_, _-_, _*_, _%_, _^_, _≤_, _<_}
+use Prim.Native.Nat.{ℕ, _+_, _-_, _%_, _^_, _≤_, _<_}
 use native.Mathlib.Omega.{arith}
 use lib.Dec.{leb, ltb, eqb}
-use lib.ListN.{length, getD}
-use borrow.Author.Tests.{ltb-true, ltb-false, leb-true, leb-false, eqb-true, eqb-false, eq-eqb, ne-eqb, not-true, not-false, lt-ltb, le-leb}
-use Rattle.meaning.specs.declared.Answer.{Answer}
-use Rattle.meaning.specs.declared.Answer.the-variants.{End, Refused, Ok, Changed, Loop, NoLoop, Went, Yes, No, Tally}
+use lib.ListN.{length}
+use borrow.Author.Tests.{ltb-true, ltb-false, leb-true, leb-false, eqb-true, eq-eqb, ne-eqb, not-false, lt-ltb, le-leb}
+use Rattle.meaning.specs.declared.Answer.the-variants.{End, Refused}
 use Rattle.meaning.specs.declared.Record.{Record}
 use Rattle.meaning.specs.declared.Record.the-variants.{Hall as hall, Link as link, Close as close, Insert as insert, Remove as remove, Loop as loop, Fate as fate, Reach as reach, Tally as tally}
 use Rattle.meaning.specs.Search.{pick, lowestBelow}
 use Rattle.meaning.specs.Hall.{top, State, sourceOf}
-use Rattle.meaning.specs.Rule.{ruleWord, live, linkOf, rank, lower, upper, covers}
+use Rattle.meaning.specs.Rule.{ruleWord, live, linkOf, rank, lower, upper}
 use Rattle.meaning.specs.Winner.{ruleAt}
 use Rattle.meaning.specs.Questions.{loopsAt, circleAt, someNode, loopFrom, reachesAt, reachFrom, asked, byAddress}
 use Rattle.meaning.specs.Records.{isKind, bodyOf, recordOf, phaseOf}
-use Rattle.meaning.specs.Step.{Done, when, ragged, clashes, added, refusal, only, answers, accepted, taken, stepBy, stepOf}
+use Rattle.meaning.specs.Step.{when, ragged, clashes, added, refusal, only, answers, accepted, taken, stepBy, stepOf}
 use Rattle.meaning.specs.Run.{Came}
 use Rattle.meaning.proofs.Places.{le-or-lt}
-use Rattle.meaning.proofs.Members.{and-both}
 use Rattle.meaning.proofs.Words.{Sized, Fits, fits, link-of, rank-of, lower-of, upper-of, within-top}
-use Rattle.meaning.proofs.Sound.{Sound, or-false}
+use Rattle.meaning.proofs.Sound.{or-false}
 use Rattle.meaning.proofs.Kept.{sound}
-use Rattle.meaning.proofs.Winners.{Serves, covers-is}
+use Rattle.meaning.proofs.Winners.{covers-is}
 use Rattle.meaning.proofs.Refusals.{ties, tie-found}
 use Rattle.meaning.proofs.Steps.{turnedBy}
 use Rattle.meaning.proofs.Demands.{Check, check, Outcome, Ties, innerWith, checksOf, checks, refusedBy}

@@ -1,12 +1,9 @@
 -- States that differ in their atoms' numbers only: every step of theirs is answered alike, and the states left differ in these numbers only.
 -- Assumes nothing.
-use mathlib.Core.Path.{_≡_, refl, sym, ap, ap₂, _∙_}
-use mathlib.Core.Bool.{Bool, true, false}
-use mathlib.Core.Option.{Option, none, some}
+use mathlib.Core.Path.{_≡_, refl, ap}
 use mathlib.Core.List.{List, [], _∷_}
-use Prim.Native.Nat.{ℕ, zero, suc, _+_}
-use lib.Dec.{eqb}
-use lib.ListN.{length, getD}
+use Prim.Native.Nat.{ℕ, zero, suc}
+use lib.ListN.{length}
 use Rattle.meaning.specs.declared.Answer.{Answer}
 use Rattle.meaning.specs.declared.Answer.the-variants.{Changed}
 use Rattle.meaning.specs.declared.Record.{Record}
@@ -15,12 +12,12 @@ use Rattle.meaning.specs.Hall.{State, sourceOf}
 use Rattle.meaning.specs.Rule.{linkOf}
 use Rattle.meaning.specs.Winner.{ruleAt, eligible, winner, linkFor, nextAt}
 use Rattle.meaning.specs.Atoms.{withCut}
-use Rattle.meaning.specs.Changes.{linkOrNone, changedAt, changedPlaces, entryAt, entriesAt}
+use Rattle.meaning.specs.Changes.{changedAt, changedPlaces, entryAt, entriesAt}
 use Rattle.meaning.specs.Questions.{byAddress}
 use Rattle.meaning.specs.Records.{recordOf}
 use Rattle.meaning.specs.Step.{Done, clashes, added, refusal, withRule, inserted, withNodes, withLink, closed, leaves, listed, nodeOf, changes, only, answers, accepted, stepOf}
 use Rattle.meaning.proofs.Steps.{turnedBy}
-use Rattle.meaning.proofs.Demands.{then, SameEntries, empty, entry, SameStep, Call, since}
+use Rattle.meaning.proofs.Demands.{SameEntries, empty, entry, SameStep, Call, since}
 use Rattle.meaning.proofs.Twins.{answers-same}
 use Rattle.meaning.proofs.Taking.{Unmoved, both-step}
 use Rattle.meaning.proofs.Spread.{node-same}

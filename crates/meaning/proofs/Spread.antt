@@ -1,14 +1,13 @@
 -- The change list over addresses: an entry lies over an address exactly when the winner at the rule's node changed there, and its links are the
 -- links before and after. So what an update changes does not depend on the cutting. Assumes nothing.
-use mathlib.Core.Path.{_≡_, refl, sym, ap, ap₂, _∙_}
-use mathlib.Core.Logic.{_↔_, _⊎_, inl, inr, ⊎-elim}
-use mathlib.Core.Bool.{Bool, true, false, not}
-use mathlib.Core.Option.{Option, none, some}
+use mathlib.Core.Path.{_≡_, refl, sym, ap, _∙_}
+use mathlib.Core.Logic.{_↔_, _⊎_, inl, inr}
+use mathlib.Core.Bool.{not}
+use mathlib.Core.Option.{none, some}
 use mathlib.Core.List.{List, [], _∷_, _++_, List·Memᴰ, List·Memᴰ·head, List·Memᴰ·tail, List·Memᴰ·not-nil, List·Memᴰ·cases-cons}
-use Prim.Native.Nat.{ℕ, suc, _+_, _≤_, _<_}
+use Prim.Native.Nat.{ℕ, _+_, _≤_, _<_}
 use native.Mathlib.Numerals.{add-one}
 use native.Mathlib.Omega.{arith}
-use lib.Dec.{eqb}
 use lib.ListN.{getD, set}
 use borrow.Author.Tests.{eqb-false, ne-eqb, not-true}
 use Rattle.meaning.specs.declared.Record.{Record}
@@ -19,14 +18,14 @@ use Rattle.meaning.specs.Winner.{ruleAt, winner, linkFor, nextAt}
 use Rattle.meaning.specs.Atoms.{placeOf, withCut}
 use Rattle.meaning.specs.Changes.{linkOrNone, changedAt, changedPlaces, entryAt, entriesAt}
 use Rattle.meaning.specs.Records.{recordOf, phaseOf}
-use Rattle.meaning.specs.Step.{Done, refusal, withRule, inserted, leaves, listed, nodeOf, changes, accepted, stepOf}
-use Rattle.meaning.specs.Run.{Came, more}
+use Rattle.meaning.specs.Step.{refusal, withRule, inserted, leaves, listed, nodeOf, changes, accepted, stepOf}
+use Rattle.meaning.specs.Run.{Came}
 use Rattle.meaning.proofs.Tables.{Cuts, Holds}
 use Rattle.meaning.proofs.Places.{place-holds, cut-top}
 use Rattle.meaning.proofs.Constant.{same-winner}
 use Rattle.meaning.proofs.Words.{Sized, Fits, fits}
 use Rattle.meaning.proofs.Sound.{Sound}
-use Rattle.meaning.proofs.Kept.{Clear, clear, keeps-cut, lower-top, upper-top, room-lower, room-upper, S₁, keeps, sound}
+use Rattle.meaning.proofs.Kept.{Clear, clear, keeps-cut, upper-top, room-upper, S₁, keeps, sound}
 use Rattle.meaning.proofs.Exchange.{winner-same, next-same}
 use Rattle.meaning.proofs.Lists.{listed-is}
 use Rattle.meaning.proofs.Demands.{ruleOf, then, Accepts, Twins, Lists, here, later, Changes}

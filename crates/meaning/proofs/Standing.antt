@@ -2,13 +2,12 @@
 -- Assumes nothing.
 use mathlib.Core.Path.{_≡_, refl, sym, ap, _∙_}
 use mathlib.Core.Logic.{_↔_, _⊎_, inl, inr, ⊎-elim}
-use mathlib.Core.Bool.{Bool, true, false, true≢false}
-use mathlib.Core.Option.{Option, none, some}
+use mathlib.Core.Bool.{true≢false}
+use mathlib.Core.Option.{none, some}
 use mathlib.Core.List.{List}
-use Prim.Native.Nat.{ℕ, _+_, _≤_, _<_}
+use Prim.Native.Nat.{ℕ}
 use native.Mathlib.Decide.{ℕ-discrete}
 use native.Mathlib.Omega.{arith}
-use lib.ListN.{length, getD, set}
 use lib.Seq.{getD-set-other}
 use Rattle.meaning.specs.declared.Answer.{Answer}
 use Rattle.meaning.specs.declared.Answer.the-variants.{Changed}
@@ -20,12 +19,11 @@ use Rattle.meaning.specs.Winner.{ruleAt}
 use Rattle.meaning.specs.Atoms.{withCut}
 use Rattle.meaning.specs.Questions.{byAddress}
 use Rattle.meaning.specs.Records.{recordOf}
-use Rattle.meaning.specs.Step.{Done, refusal, withRule, inserted, withNodes, withLink, closed, leaves, only, answers, accepted, stepOf}
+use Rattle.meaning.specs.Step.{Done, withRule, inserted, withNodes, withLink, closed, leaves, only, answers, accepted, stepOf}
 use Rattle.meaning.specs.Run.{Came, start, more}
-use Rattle.meaning.proofs.Words.{Sized, Fits, fits}
+use Rattle.meaning.proofs.Words.{Fits, fits}
 use Rattle.meaning.proofs.Sound.{fresh-sound}
 use Rattle.meaning.proofs.Winners.{Stored, insert-stores, remove-frees}
-use Rattle.meaning.proofs.Steps.{isOk}
 use Rattle.meaning.proofs.Demands.{ruleOf, then, Accepts, InForce}
 use Rattle.meaning.proofs.Taking.{Unmoved, no-byte, refused, both-step, by-update, took-it, left-is}
 

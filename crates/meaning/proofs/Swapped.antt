@@ -2,20 +2,17 @@
 -- step is taken alike. Assumes nothing.
 use mathlib.Core.Path.{_≡_, refl, sym, ap, _∙_}
 use mathlib.Core.Logic.{_↔_, _⊎_, inl, inr, ⊎-elim}
-use mathlib.Core.Option.{some}
 use mathlib.Core.List.{List}
-use Prim.Native.Nat.{ℕ, zero, suc, _+_, _≤_, _<_}
+use Prim.Native.Nat.{ℕ, zero, suc, _≤_, _<_}
 use native.Mathlib.Omega.{arith}
-use lib.ListN.{length, getD, set}
+use lib.ListN.{getD, set}
 use lib.Seq.{ext-getD, set-comm}
-use Rattle.meaning.specs.declared.Answer.the-variants.{Changed}
 use Rattle.meaning.specs.Hall.{top, State}
 use Rattle.meaning.specs.Records.{recordOf}
 use Rattle.meaning.specs.Step.{stepOf}
 use Rattle.meaning.specs.Run.{Came, more}
 use Rattle.meaning.proofs.Tables.{Cuts, Boundary}
 use Rattle.meaning.proofs.Places.{le-or-lt, cut-le}
-use Rattle.meaning.proofs.Sound.{Sound}
 use Rattle.meaning.proofs.Kept.{sound}
 use Rattle.meaning.proofs.Boundaries.{EndsAt, Ended, boundaries}
 use Rattle.meaning.proofs.Demands.{Twins, then, Accepts, Call, since, SameStep, EitherOrder, either}

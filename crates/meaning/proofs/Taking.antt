@@ -4,13 +4,13 @@ use mathlib.Core.Logic.{_↔_}
 use mathlib.Core.Bool.{Bool, true, false, not, true≢false}
 use mathlib.Core.Option.{Option, none, some}
 use mathlib.Core.List.{List, [], _∷_}
-use Prim.Native.Nat.{ℕ, _+_, _*_, _≤_, _<_}
+use Prim.Native.Nat.{ℕ, _+_, _*_, _≤_}
 use native.Mathlib.Omega.{arith}
 use lib.Dec.{ltb, eqb}
 use lib.ListN.{length, getD, set}
 use borrow.Author.Tests.{eqb-true, eq-eqb, le-ltb, not-false}
 use Rattle.meaning.specs.declared.Answer.{Answer}
-use Rattle.meaning.specs.declared.Answer.the-variants.{End, Refused, Changed}
+use Rattle.meaning.specs.declared.Answer.the-variants.{End, Refused}
 use Rattle.meaning.specs.declared.Read.the-variants.{End as Nothing, Refused as Unread, Got}
 use Rattle.meaning.specs.declared.Record.{Record}
 use Rattle.meaning.specs.declared.Record.the-variants.{Hall as hall, Link as link, Close as close, Insert as insert, Remove as remove, Loop as loop, Fate as fate, Reach as reach, Tally as tally}
@@ -20,7 +20,7 @@ use Rattle.meaning.specs.Rule.{ruleWord}
 use Rattle.meaning.specs.Atoms.{withCut}
 use Rattle.meaning.specs.Questions.{byAddress}
 use Rattle.meaning.specs.Records.{isKind, bodyOf, recordOf, readOf, phaseOf}
-use Rattle.meaning.specs.Step.{Done, when, refusal, withRule, inserted, leaves, only, answers, accepted, taken, stepBy, stepOf}
+use Rattle.meaning.specs.Step.{Done, refusal, withRule, inserted, leaves, only, answers, accepted, taken, stepBy, stepOf}
 use Rattle.meaning.proofs.Sound.{when-none}
 use Rattle.meaning.proofs.Steps.{Stepped, short, ended, unread, turned, took, stepped, isQuestion, turnedBy}
 use Rattle.meaning.proofs.Stops.{at-end, stays}

@@ -1,18 +1,16 @@
 -- Two histories that end with the same live rules, part by part, end with the same words: so every winner, fate and answer is the same.
 -- Assumes nothing.
-use mathlib.Core.Path.{_≡_, refl, sym, ap, ap₂, _∙_}
+use mathlib.Core.Path.{_≡_, refl, sym, ap, _∙_}
 use mathlib.Core.Logic.{_⊎_, inl, inr, ⊎-elim}
-use mathlib.Core.Bool.{Bool, true, false, not, true≢false}
+use mathlib.Core.Bool.{Bool, true, false, true≢false}
 use mathlib.Core.Option.{Option, none, some}
 use mathlib.Core.List.{List, []}
 use Prim.Native.Nat.{ℕ, _≤_, _<_}
 use native.Mathlib.Decide.{ℕ-discrete}
 use native.Mathlib.Omega.{arith}
-use lib.Dec.{eqb}
 use lib.ListN.{length, getD, set}
 use lib.Seq.{ext-getD, getD-set-same, getD-set-other, set-out}
 use borrow.Author.Tests.{eqb-true, not-false}
-use Rattle.meaning.specs.declared.Answer.{Answer}
 use Rattle.meaning.specs.declared.Record.{Record}
 use Rattle.meaning.specs.declared.Record.the-variants.{Hall as hall, Link as link, Close as close, Insert as insert, Remove as remove, Loop as loop, Fate as fate, Reach as reach, Tally as tally}
 use Rattle.meaning.specs.Search.{lowestBelow}
@@ -20,16 +18,16 @@ use Rattle.meaning.specs.Hall.{top, State, fresh, sourceOf, endOf}
 use Rattle.meaning.specs.Rule.{ruleWord, live, linkOf, lengthOf, rank, lower}
 use Rattle.meaning.specs.Winner.{ruleAt, eligible, winner, linkFor, nextAt}
 use Rattle.meaning.specs.Atoms.{withCut}
-use Rattle.meaning.specs.Questions.{fateOf, loopsAt, circleAt, someNode, loopFrom, reachesAt, asked, byAddress}
+use Rattle.meaning.specs.Questions.{fateOf, loopsAt, circleAt, loopFrom, reachesAt, asked, byAddress}
 use Rattle.meaning.specs.Records.{recordOf, phaseOf}
-use Rattle.meaning.specs.Step.{Done, refusal, withRule, inserted, withNodes, withLink, closed, leaves, only, answers, accepted, stepOf}
+use Rattle.meaning.specs.Step.{refusal, withRule, inserted, withNodes, withLink, closed, leaves, only, answers, accepted, stepOf}
 use Rattle.meaning.specs.Run.{Came, start, more}
 use Rattle.meaning.proofs.Places.{le-or-lt}
 use Rattle.meaning.proofs.Words.{Sized, Fits, link-of, rank-of, lower-of, length-of}
 use Rattle.meaning.proofs.Sound.{Sound, step-keeps, fresh-sound}
-use Rattle.meaning.proofs.Kept.{Clear, clear, sound}
+use Rattle.meaning.proofs.Kept.{clear, sound}
 use Rattle.meaning.proofs.Steps.{isQuestion, turnedBy}
-use Rattle.meaning.proofs.Demands.{SameRule, Twins}
+use Rattle.meaning.proofs.Demands.{Twins}
 use Rattle.meaning.proofs.Taking.{by-question, both-step}
 
 -- ---- a live rule's word is the word of its parts
