@@ -4,5 +4,4 @@ pub mod Gathered
 pub mod Rows
 pub mod Sweep
 pub mod Moves
-pub mod Kinds
 pub mod Tallied

@@ -1,12 +1,10 @@
 // Labels: 512 words, link l's at 8 l to 8 l + 7, and atom k the bit k % 64 of the word k / 64 of these.
-use meaning::Found;
 ghost use mathlib.Core.Path.{_≡_};
 ghost use mathlib.Core.Bool.{_||_, _&&_, not};
-ghost use mathlib.Core.Option.{none};
 ghost use Prim.Native.Nat.{ℕ, _<_, _≤_};
 ghost use lib.Dec.{eqb};
-ghost use Rattle.meaning.specs.Search.{pick, found};
-ghost use Rattle.meaning.specs.Labels.{on, howMany, lowestOn};
+ghost use Rattle.meaning.specs.Search.{pick};
+ghost use Rattle.meaning.specs.Labels.{on};
 ghost use Rattle.meaning.proofs.Owners.{Words};
 ghost use Rattle.hall.specs.Bits.{Put, TakenOff, Moved};
 
@@ -56,40 +54,4 @@ pub fn move_atom(label: &mut [u64; 512], old: usize, new: usize, atom: usize)
     if new < 64 {
         put(label, new, atom);
     }
-}
-
-// How many atoms are on a link.
-pub fn atoms_on(label: &[u64; 512], link: usize) -> u32
-    ensures { λ r. ⌜ r ≡ howMany (now (label .entry)) link ⌝ }
-{
-    if 64 <= link {
-        return 0;
-    }
-    let s: &[u64] = label;
-    let mut n = 0u32;
-    let mut i = 0usize;
-    while i < 8 {
-        n += u64::count_ones(s[8 * link + i]);
-        i += 1;
-    }
-    n
-}
-
-// The lowest-numbered atom on a link.
-pub fn lowest_on(label: &[u64; 512], link: usize) -> Found
-    ensures { λ r. ⌜ found r ≡ lowestOn (now (label .entry)) link ⌝ }
-{
-    if 64 <= link {
-        return Found::Nothing;
-    }
-    let mut i: usize = 0;
-    while i < 8 {
-        let w = label[8 * link + i];
-        let t = u64::trailing_zeros(w) as usize;
-        if t < 64 {
-            return Found::At(64 * i + t);
-        }
-        i += 1;
-    }
-    Found::Nothing
 }

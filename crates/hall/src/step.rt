@@ -376,7 +376,7 @@ pub fn take_record(
     if list.len() < 2560 {
         return only(h, 0, Answer::Refused(0));
     }
-    match crate::record::read_record(bytes) {
+    match records::read_record(bytes) {
         Read::End => only(h, 0, Answer::End),
         Read::Refused(k) => only(h, 0, Answer::Refused(k)),
         Read::Got(what, passed) => {

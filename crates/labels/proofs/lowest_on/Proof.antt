@@ -1,0 +1,99 @@
+-- `label::lowest_on` meets its contract. The loop's invariant: no atom of the words passed is on the link. Assumes nothing.
+use mathlib.Core.Bool.{false}
+use mathlib.Core.Path.{_≡_, sym}
+use Prim.Native.Nat.{ℕ, _+_, _*_, _-_, _≤_, _<_}
+use native.Mathlib.Omega.{arith}
+use denote.Ref.{now}
+use lib.Count.{trailing-le}
+use lib.ListN.{getD}
+use borrow.Author.Tests.{lt-ltb, le-ltb}
+use Rattle.meaning.specs.Search.{found}
+use Rattle.meaning.specs.Labels.{on, lowestOn}
+use Rattle.meaning.proofs.Below.{lowest-is}
+use Rattle.meaning.proofs.Numbered.{lowest-off}
+use Rattle.meaning.proofs.LabelWords.{none-below, there}
+use borrow.Author.Needs.{needs}
+use Rattle.labels.proofs.lowest_on.Statement.{statement}
+use Rattle.labels.proofs.lowest_on.Tie as tie
+
+abbrev Inv-loop : tie.InvT-loop
+Inv-loop label link i₀ i = (i ≤ 8) × ((j : ℕ) → j < 64 * i → on label link j ≡ false)
+
+abbrev μ-loop : tie.MeasureT-loop
+μ-loop label link i₀ i = 8 - i
+
+returns : tie.Need-returns Inv-loop μ-loop
+unfolding found lowestOn
+returns c = rw (le-ltb _ _ (c .if1 .taken))
+
+loop-holds : tie.Need-loop-holds Inv-loop μ-loop
+loop-holds c = (search needs, λ j l. absurd (omega arith))
+
+mul-w : tie.Need-mul-w Inv-loop μ-loop
+mul-w c = search needs
+
+add-w : tie.Need-add-w Inv-loop μ-loop
+add-w c = search needs
+
+mul-w-2 : tie.Need-mul-w-2 Inv-loop μ-loop
+mul-w-2 c = search needs
+
+element-copy-out-w : tie.Need-element-copy-out-w Inv-loop μ-loop
+element-copy-out-w c = search needs
+
+cast-t : tie.Need-cast-t Inv-loop μ-loop
+cast-t c =
+    let p = c .before .before in
+    let a = p .before .before .args in
+    omega (arith, trailing-le 64 (getD (now (a .label)) (8 * a .link + p .loop .i) 0))
+
+mul-t15 : tie.Need-mul-t15 Inv-loop μ-loop
+mul-t15 c = search needs
+
+add-t16 : tie.Need-add-t16 Inv-loop μ-loop
+add-t16 c = search needs
+
+returns-2 : tie.Need-returns-2 Inv-loop μ-loop
+unfolding found lowestOn
+returns-2 c =
+    let p = c .before .before .before in
+    let a = p .before .before .args in
+    rw (lt-ltb _ _ (p .before .if1 .left))
+    (sym (lowest-is _ 512 _ (omega arith) (there (now (a .label)) (a .link) (p .loop .i) (c .if2 .taken)) (none-below (now (a .label)) (a .link) (p .loop .i) (p .loop .inv .1))))
+
+add-i : tie.Need-add-i Inv-loop μ-loop
+add-i c = search needs
+
+loop-less : tie.Need-loop-less Inv-loop μ-loop
+loop-less c = search needs
+
+loop-again : tie.Need-loop-again Inv-loop μ-loop
+loop-again c =
+    let p = c .before .before .before in
+    let a = p .before .before .args in
+    (search needs, λ j l. none-below (now (a .label)) (a .link) (p .loop .i) (p .loop .inv .1) j (omega arith))
+
+returns-3 : tie.Need-returns-3 Inv-loop μ-loop
+unfolding found lowestOn
+returns-3 c = rw (lt-ltb _ _ (c .before .before .if1 .left)) (sym (lowest-off _ 512 (λ j l. c .before .loop .inv .1 j (omega arith))))
+
+pub lowest-on-spec : {M : Type 1} → statement M
+lowest-on-spec =
+    tie.close
+    (tie.spec
+    Inv-loop
+    μ-loop
+    returns
+    loop-holds
+    mul-w
+    add-w
+    mul-w-2
+    element-copy-out-w
+    cast-t
+    mul-t15
+    add-t16
+    returns-2
+    add-i
+    loop-less
+    loop-again
+    returns-3)

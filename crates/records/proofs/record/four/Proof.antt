@@ -1,0 +1,44 @@
+-- `records::record::four` meets its contract: four bytes are two pairs of bytes. Assumes nothing.
+use borrow.Author.Needs.{needs}
+use native.Mathlib.Omega.{arith}
+use Rattle.meaning.proofs.Reading.{number-four}
+use Rattle.records.proofs.record.four.Statement.{statement}
+use Rattle.records.proofs.record.four.Tie as tie
+
+two-requires : tie.Need-two-requires
+two-requires c κs = search needs
+
+cast-result : tie.Need-cast-result
+cast-result c = search needs
+
+mul-result : tie.Need-mul-result
+mul-result c = search needs
+
+add-two : tie.Need-add-two
+add-two c = search needs
+
+two-requires-2 : tie.Need-two-requires-2
+two-requires-2 c κs = search needs
+
+cast-result-2 : tie.Need-cast-result-2
+cast-result-2 c = search needs
+
+add-result : tie.Need-add-result
+add-result c = search needs
+
+returns : tie.Need-returns
+returns c =
+    omega (arith, number-four (c .before .before .before .args .s .now) (c .before .before .before .args .i), c .before .two .ensures, c .two2 .ensures)
+
+pub four-spec : {M : Type 1} → statement M
+four-spec =
+    tie.close
+    (tie.spec
+    two-requires
+    cast-result
+    mul-result
+    add-two
+    two-requires-2
+    cast-result-2
+    add-result
+    returns)

@@ -1,0 +1,2 @@
+-- What the functions that read do for each other.
+pub mod Kinds
