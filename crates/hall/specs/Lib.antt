@@ -5,3 +5,4 @@ pub mod Rows
 pub mod Sweep
 pub mod Moves
 pub mod Tallied
+pub mod Questions
