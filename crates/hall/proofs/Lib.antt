@@ -7,3 +7,4 @@ mod Sweeping
 mod Clears
 mod Running
 mod Updated
+mod Others

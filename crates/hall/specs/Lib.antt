@@ -6,3 +6,4 @@ pub mod Sweep
 pub mod Moves
 pub mod Kinds
 pub mod Tallied
+pub mod Questions

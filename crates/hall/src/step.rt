@@ -9,14 +9,15 @@ use meaning::Rule;
 use meaning::Step;
 ghost use mathlib.Core.Path.{_≡_};
 ghost use mathlib.Core.List.{List};
-ghost use Prim.Native.Nat.{ℕ, _+_, _*_, _≤_};
+ghost use Prim.Native.Nat.{ℕ, _+_, _*_, _≤_, _<_};
 ghost use lib.ListN.{length};
 ghost use Rattle.meaning.specs.Hall.{endNumber};
 ghost use Rattle.meaning.specs.Records.{phaseOf};
 ghost use Rattle.meaning.specs.Step.{checked, refusal};
 ghost use Rattle.meaning.specs.Box.{stateOf, Held, left, leftOf};
 ghost use Rattle.meaning.proofs.Boxes.{takes};
-ghost use Rattle.meaning.specs.declared.Record.the-variants.{Hall as aHall, Link as aLink, Close as aClose, Insert as insertion, Remove as removal, Loop as askLoop, Fate as askFate, Reach as askReach, Tally as askTally};
+ghost use Rattle.meaning.specs.declared.Record.the-variants.{Hall as aHall, Link as aLink, Close as aClose, Insert as insertion, Remove as removal};
+ghost use Rattle.hall.specs.Questions.{isQuestion};
 
 // The phase that a record belongs in.
 fn phase_of(what: Record) -> u8
@@ -223,8 +224,8 @@ fn take_remove(
 
 // ---- the questions
 
-// The loop question.
-fn ask_loop(
+// The answer to a question.
+fn ask(
     h: Hall,
     link: &[u16; 64],
     rule: &[u64; 256],
@@ -232,96 +233,59 @@ fn ask_loop(
     number: &[u16; 512],
     label: &[u64; 512],
     owner: &[u16; 8192],
-    passed: usize,
-) -> Step
+    what: Record,
+) -> Answer
     requires { ⌜ Held (stateOf h (now link) (now rule) (now cut) (now number)) (now label) (now owner) ⌝ }
-    ensures { λ r. ⌜ ((list : List ℕ) → left (r .answer) (r .passed) (stateOf (r .hall) (now (link .entry)) (now (rule .entry)) (now (cut .entry)) (now (number .entry))) (now (label .entry)) (now (owner .entry)) list
-        ≡ takes (stateOf h (now (link .entry)) (now (rule .entry)) (now (cut .entry)) (now (number .entry))) list passed askLoop) ⌝ }
+    ensures { λ r. ⌜ (isQuestion what → (list : List ℕ) (passed : ℕ) → left r passed (stateOf h (now (link .entry)) (now (rule .entry)) (now (cut .entry)) (now (number .entry))) (now (label .entry)) (now (owner .entry)) list
+        ≡ takes (stateOf h (now (link .entry)) (now (rule .entry)) (now (cut .entry)) (now (number .entry))) list passed what) ⌝ }
 {
-    let answer = crate::ask::find_loop(h, link, rule, cut, number, label, owner);
-    only(h, passed, answer)
-}
-
-// The fate question.
-fn ask_fate(
-    h: Hall,
-    link: &[u16; 64],
-    rule: &[u64; 256],
-    cut: &[u64; 513],
-    number: &[u16; 512],
-    label: &[u64; 512],
-    owner: &[u16; 8192],
-    passed: usize,
-    v: u8,
-    a: u32,
-) -> Step
-    requires { ⌜ Held (stateOf h (now link) (now rule) (now cut) (now number)) (now label) (now owner) ⌝ }
-    ensures { λ r. ⌜ ((list : List ℕ) → left (r .answer) (r .passed) (stateOf (r .hall) (now (link .entry)) (now (rule .entry)) (now (cut .entry)) (now (number .entry))) (now (label .entry)) (now (owner .entry)) list
-        ≡ takes (stateOf h (now (link .entry)) (now (rule .entry)) (now (cut .entry)) (now (number .entry))) list passed (askFate v a)) ⌝ }
-{
-    if h.nodes <= v {
-        return only(h, passed, Answer::Refused(4));
+    match what {
+        Record::Loop => crate::ask::find_loop(h, link, rule, cut, number, label, owner),
+        Record::Fate(v, a) => {
+            if h.nodes <= v {
+                return Answer::Refused(4);
+            }
+            Answer::Went(crate::ask::fate_from(h, link, rule, cut, number, label, owner, v, a))
+        }
+        Record::Reach(v, w) => {
+            if h.nodes <= v {
+                return Answer::Refused(4);
+            }
+            if h.nodes <= w {
+                return Answer::Refused(4);
+            }
+            crate::ask::find_reach(h, link, rule, cut, number, label, owner, v, w)
+        }
+        Record::Tally(v) => {
+            if h.nodes <= v {
+                return Answer::Refused(4);
+            }
+            crate::ask::count_fates(h, link, rule, cut, number, label, owner, v)
+        }
+        _ => Answer::Refused(3),
     }
-    let f = crate::ask::fate_from(h, link, rule, cut, number, label, owner, v, a);
-    only(h, passed, Answer::Went(f))
-}
-
-// The reach question.
-fn ask_reach(
-    h: Hall,
-    link: &[u16; 64],
-    rule: &[u64; 256],
-    cut: &[u64; 513],
-    number: &[u16; 512],
-    label: &[u64; 512],
-    owner: &[u16; 8192],
-    passed: usize,
-    v: u8,
-    w: u8,
-) -> Step
-    requires { ⌜ Held (stateOf h (now link) (now rule) (now cut) (now number)) (now label) (now owner) ⌝ }
-    ensures { λ r. ⌜ ((list : List ℕ) → left (r .answer) (r .passed) (stateOf (r .hall) (now (link .entry)) (now (rule .entry)) (now (cut .entry)) (now (number .entry))) (now (label .entry)) (now (owner .entry)) list
-        ≡ takes (stateOf h (now (link .entry)) (now (rule .entry)) (now (cut .entry)) (now (number .entry))) list passed (askReach v w)) ⌝ }
-{
-    if h.nodes <= v {
-        return only(h, passed, Answer::Refused(4));
-    }
-    if h.nodes <= w {
-        return only(h, passed, Answer::Refused(4));
-    }
-    let answer = crate::ask::find_reach(h, link, rule, cut, number, label, owner, v, w);
-    only(h, passed, answer)
-}
-
-// The tally question.
-fn ask_tally(
-    h: Hall,
-    link: &[u16; 64],
-    rule: &[u64; 256],
-    cut: &[u64; 513],
-    number: &[u16; 512],
-    label: &[u64; 512],
-    owner: &[u16; 8192],
-    passed: usize,
-    v: u8,
-) -> Step
-    requires { ⌜ Held (stateOf h (now link) (now rule) (now cut) (now number)) (now label) (now owner) ⌝ }
-    ensures { λ r. ⌜ ((list : List ℕ) → left (r .answer) (r .passed) (stateOf (r .hall) (now (link .entry)) (now (rule .entry)) (now (cut .entry)) (now (number .entry))) (now (label .entry)) (now (owner .entry)) list
-        ≡ takes (stateOf h (now (link .entry)) (now (rule .entry)) (now (cut .entry)) (now (number .entry))) list passed (askTally v)) ⌝ }
-{
-    if h.nodes <= v {
-        return only(h, passed, Answer::Refused(4));
-    }
-    let answer = crate::ask::count_fates(h, link, rule, cut, number, label, owner, v);
-    only(h, passed, answer)
 }
 
 // ---- one record
 
-// What a record in its order does.
+// What a record before the close does: only the links may change.
+fn set_up(h: Hall, link: &mut [u16; 64], passed: usize, what: Record) -> Step
+    requires { ⌜ h .nodes ≤ 16 ⌝ }
+    ensures { λ r. ⌜ ((rule cut places label owner list : List ℕ) → Held (stateOf h (now (link .entry)) rule cut places) label owner → h .phase ≡ phaseOf what → h .phase < 2
+        → left (r .answer) (r .passed) (stateOf (r .hall) (now (link .exit)) rule cut places) label owner list ≡ takes (stateOf h (now (link .entry)) rule cut places) list passed what) ⌝ }
+{
+    match what {
+        Record::Hall(n) => take_hall(h, passed, n),
+        Record::Link(s, c, e) => take_link(h, link, passed, s, c, e),
+        Record::Close => take_close(h, passed),
+        _ => only(h, passed, Answer::Refused(3)),
+    }
+}
+
+// What a record after the close does or asks.
 fn act(
     h: Hall,
-    link: &mut [u16; 64],
+    link: &[u16; 64],
     rule: &mut [u64; 256],
     cut: &mut [u64; 513],
     number: &mut [u16; 512],
@@ -332,14 +296,11 @@ fn act(
     what: Record,
 ) -> Step
     requires { ⌜ Held (stateOf h (now link) (now rule) (now cut) (now number)) (now label) (now owner) ⌝ }
-    requires { ⌜ (h .phase ≡ phaseOf what) × (2560 ≤ length (now list)) ⌝ }
-    ensures { λ s. ⌜ left (s .answer) (s .passed) (stateOf (s .hall) (now (link .exit)) (now (rule .exit)) (now (cut .exit)) (now (number .exit))) (now (label .exit)) (now (owner .exit)) (now (list .exit))
+    requires { ⌜ (h .phase ≡ phaseOf what) × (2560 ≤ length (now list)) × (2 ≤ h .phase) ⌝ }
+    ensures { λ s. ⌜ left (s .answer) (s .passed) (stateOf (s .hall) (now (link .entry)) (now (rule .exit)) (now (cut .exit)) (now (number .exit))) (now (label .exit)) (now (owner .exit)) (now (list .exit))
         ≡ takes (stateOf h (now (link .entry)) (now (rule .entry)) (now (cut .entry)) (now (number .entry))) (now (list .entry)) passed what ⌝ }
 {
     match what {
-        Record::Hall(n) => take_hall(h, passed, n),
-        Record::Link(s, c, e) => take_link(h, link, passed, s, c, e),
-        Record::Close => take_close(h, passed),
         Record::Insert(r, l, p, n, t) => {
             let x = Rule {
                 link: l,
@@ -350,10 +311,11 @@ fn act(
             take_insert(h, link, rule, cut, number, label, owner, list, passed, r, x)
         }
         Record::Remove(r) => take_remove(h, link, rule, cut, number, label, owner, list, passed, r),
-        Record::Loop => ask_loop(h, link, rule, cut, number, label, owner, passed),
-        Record::Fate(v, a) => ask_fate(h, link, rule, cut, number, label, owner, passed, v, a),
-        Record::Reach(v, w) => ask_reach(h, link, rule, cut, number, label, owner, passed, v, w),
-        Record::Tally(v) => ask_tally(h, link, rule, cut, number, label, owner, passed, v),
+        _ => only(
+            h,
+            passed,
+            ask(h, link, rule, cut, number, label, owner, what),
+        ),
     }
 }
 
@@ -382,6 +344,9 @@ pub fn take_record(
         Read::Got(what, passed) => {
             if h.phase != phase_of(what) {
                 return only(h, passed, Answer::Refused(3));
+            }
+            if h.phase < 2 {
+                return set_up(h, link, passed, what);
             }
             act(h, link, rule, cut, number, label, owner, list, passed, what)
         }

@@ -1,6 +1,7 @@
 -- `hall::step::take_record` meets its contract: too short a list, what was read, the order, and then what the record does. Assumes nothing.
 use mathlib.Core.Path.{sym, _∙_}
 use borrow.Author.Needs.{needs}
+use Rattle.meaning.proofs.Labelled.{held-whole}
 use Rattle.meaning.proofs.Boxes.{short-leaves, end-leaves, unread-leaves, disorder-leaves, order-leaves}
 use Rattle.hall.proofs.step.take_record.Statement.{statement}
 use Rattle.hall.proofs.step.take_record.Tie as tie
@@ -47,22 +48,39 @@ returns-2 c =
     (disorder-leaves _ _ _ _ (l .before .before .before .pre) _ (l .if1 .left) _ _ (sym (d .read-record .ensures) ∙ w .what .given .1)
     (λ e. o .if2 .taken (e ∙ sym (o .before .before .phase-of .ensures))))
 
-act-requires : tie.Need-act-requires
-act-requires c κs =
-    let e = c .before .before .before .before .before .before .before in
+set-up-requires : tie.Need-set-up-requires
+set-up-requires c κs =
+    let e = c .before .before .before in
     let l = e .before .before .before .before .before .before .before in
-    (l .before .before .before .pre, (e .if2 .left ∙ e .before .before .phase-of .ensures, l .if1 .left))
+    held-whole _ _ _ (l .before .before .before .pre) .sound .small
 
 returns-3 : tie.Need-returns-3
 returns-3 c =
+    let t = c .before .before in
+    let e = t .before .before in
+    let w = e .before .before .before .before in
+    let d = w .before .before in
+    let o = e .if2 .left ∙ e .before .before .phase-of .ensures in
+    c .set-up .ensures _ _ _ _ _ _ (d .before .before .before .before .pre) o (t .if3 .taken)
+    ∙ order-leaves _ _ _ (d .before .if1 .left) _ _ (sym (d .read-record .ensures) ∙ w .what .given .1) o
+
+act-requires : tie.Need-act-requires
+act-requires c κs =
+    let f = c .before .before .before .before .before .before .before in
+    let e = f .before .before in
+    let l = e .before .before .before .before .before .before .before in
+    (l .before .before .before .pre, (e .if2 .left ∙ e .before .before .phase-of .ensures, l .if1 .left, f .if3 .left))
+
+returns-4 : tie.Need-returns-4
+returns-4 c =
     let t = c .before in
     let d = t .before .before in
     let l = d .before in
     rw (c .only2 .ensures)
     (end-leaves _ _ _ _ (l .before .before .before .pre) _ (l .if1 .left) (sym (d .read-record .ensures) ∙ t .enum-told .given .1))
 
-returns-4 : tie.Need-returns-4
-returns-4 c =
+returns-5 : tie.Need-returns-5
+returns-5 c =
     let k = c .before .before in
     let d = k .before .before in
     let l = d .before in
@@ -72,10 +90,10 @@ returns-4 c =
 same-length : tie.Need-same-length
 same-length c = search needs
 
-returns-5 : tie.Need-returns-5
-returns-5 c =
+returns-6 : tie.Need-returns-6
+returns-6 c =
     let a = c .before .before in
-    let e = a .before .before .before .before .before .before .before .before in
+    let e = a .before .before .before .before .before .before .before .before .before .before in
     let w = e .before .before .before .before in
     let d = w .before .before in
     a .act .ensures
@@ -96,8 +114,10 @@ take-record-spec =
     phase-of-requires
     only-requires-4
     returns-2
-    act-requires
+    set-up-requires
     returns-3
+    act-requires
     returns-4
+    returns-5
     same-length
-    returns-5)
+    returns-6)

@@ -1,0 +1,67 @@
+-- `hall::step::set_up` meets its contract: in each arm what was told of the record turns the part's contract into the whole's. Assumes nothing.
+use mathlib.Core.Path.{sym, ap, subst, _∙_}
+use Prim.Native.Nat.{ℕ, _<_}
+use borrow.Author.Needs.{needs}
+use Rattle.meaning.specs.Records.{phaseOf}
+use Rattle.meaning.proofs.Boxes.{takes}
+use Rattle.hall.proofs.Others.{not-before}
+use Rattle.hall.proofs.step.set_up.Statement.{statement}
+use Rattle.hall.proofs.step.set_up.Tie as tie
+
+enum-known-what : tie.Need-enum-known-what
+enum-known-what c = search needs
+
+take-hall-requires : tie.Need-take-hall-requires
+take-hall-requires c κs = search needs
+
+enum-known-what-2 : tie.Need-enum-known-what-2
+enum-known-what-2 c = search needs
+
+take-link-requires : tie.Need-take-link-requires
+take-link-requires c κs = search needs
+
+enum-told : tie.Need-enum-told
+enum-told c = search needs
+
+take-close-requires : tie.Need-take-close-requires
+take-close-requires c κs = search needs
+
+only-requires : tie.Need-only-requires
+only-requires c κs = search needs
+
+returns : tie.Need-returns
+unfolding phaseOf
+returns c rule cut places label owner list h p q =
+    let w = c .before .before in
+    c .take-hall .ensures _ rule cut places label owner list h (p ∙ ap phaseOf (w .what .given .1)) ∙ ap (takes _ _ _) (sym (w .what .given .1))
+
+returns-2 : tie.Need-returns-2
+unfolding phaseOf
+returns-2 c rule cut places label owner list h p q =
+    let w = c .before .before .before in
+    c .take-link .ensures rule cut places label owner list h (p ∙ ap phaseOf (w .what2 .given .1)) ∙ ap (takes _ _ _) (sym (w .what2 .given .1))
+
+returns-3 : tie.Need-returns-3
+unfolding phaseOf
+returns-3 c rule cut places label owner list h p q =
+    let t = c .before in
+    c .take-close .ensures _ rule cut places label owner list h (p ∙ ap phaseOf (t .enum-told .given .1)) ∙ ap (takes _ _ _) (sym (t .enum-told .given .1))
+
+returns-4 : tie.Need-returns-4
+returns-4 c rule cut places label owner list h p q = absurd (not-before _ (c .before .match .keys4) (subst (λ (x : ℕ). x < 2) p q))
+
+pub set-up-spec : {M : Type 1} → statement M
+set-up-spec =
+    tie.close
+    (tie.spec
+    enum-known-what
+    take-hall-requires
+    enum-known-what-2
+    take-link-requires
+    enum-told
+    take-close-requires
+    only-requires
+    returns
+    returns-2
+    returns-3
+    returns-4)
