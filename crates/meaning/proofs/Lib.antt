@@ -1,18 +1,30 @@
 -- The laws of document 01's definitions, by subject. Assumes nothing.
--- First the laws that a reader looks for, in the document's order:
+-- First the three demands, and that they hold:
+pub mod Demands
+pub mod DemandsHold
+-- then the laws that a reader looks for, in the document's order:
 pub mod Winners
+pub mod Standing
 pub mod Covering
 pub mod Boundaries
+pub mod Inner
 pub mod Numbering
 pub mod Updates
 pub mod Lists
+pub mod Spread
 pub mod Undone
 pub mod Fates
 pub mod Asked
+pub mod Twins
+pub mod Swapped
+pub mod Renumbered
 pub mod Refusals
+pub mod Outcomes
 pub mod Steps
 pub mod Stops
+pub mod Taking
 pub mod Said
+pub mod Once
 pub mod Listing
 pub mod Sides
 -- and then what they stand on, and what the code's proofs cite

@@ -1,15 +1,18 @@
--- A record's bytes: numbers of one, two and four bytes, and each record by its kind. For code that reads. Assumes nothing.
+-- A record's bytes: numbers of one, two and four bytes, and each record by its kind; and what is read at a place of a stream. For code that reads. Assumes nothing.
 use mathlib.Core.Path.{_≡_, refl, sym, ap, ap₂, _∙_}
-use mathlib.Core.Bool.{true, false}
+use mathlib.Core.Bool.{Bool, true, false, not}
 use mathlib.Core.List.{List}
 use Prim.Native.Nat.{ℕ, _+_, _*_, _%_, _<_, _≤_}
 use native.Mathlib.Nat.{add-zero}
 use native.Mathlib.Omega.{arith}
-use lib.ListN.{length, getD}
-use borrow.Author.Tests.{eq-eqb, ne-eqb, lt-ltb, le-ltb}
-use Rattle.meaning.specs.Records.{number, isKind, bodyOf, recordOf, readOf}
+use lib.Dec.{eqb, ltb}
+use lib.ListN.{length, getD, drop, length-drop}
+use borrow.Author.Tests.{eq-eqb, ne-eqb, lt-ltb, le-ltb, ltb-false}
+use Rattle.meaning.specs.Search.{pick}
+use Rattle.meaning.specs.Records.{number, isKind, bodyOf, recordOf, readOf, placeAfter, placedAt}
 use Rattle.meaning.specs.declared.Read.{Read}
 use Rattle.meaning.specs.declared.Read.the-variants.{End, Refused, Got}
+use Rattle.meaning.specs.declared.Placed.{Placed}
 use Rattle.meaning.specs.declared.Record.{Record}
 use Rattle.meaning.specs.declared.Record.the-variants.{Hall as hall, Link as link, Close as close, Insert as insert, Remove as remove, Loop as loop, Fate as fate, Reach as reach, Tally as tally}
 
@@ -101,3 +104,33 @@ module _ (s : List ℕ) where
     pub read-got : isKind (getD s 0 0) ≡ true → 1 + bodyOf (getD s 0 0) ≤ length s → Got (recordOf s) (1 + bodyOf (getD s 0 0)) ≡ readOf s
     unfolding readOf
     read-got e h = rw (ne-eqb (length s) 0 some, e, le-ltb (length s) (1 + bodyOf (getD s 0 0)) h)
+
+-- past the end of a stream no byte is left
+pub read-past : (s : List ℕ) (at : ℕ) → length s < at → End ≡ readOf (drop at s)
+read-past s at h = read-end (drop at s) (rw length-drop (omega arith))
+
+-- a record that is read lies within the bytes
+pub read-within : (s : List ℕ) (r : Record) (n : ℕ) → readOf s ≡ Got r n → n ≤ length s
+unfolding readOf
+read-within s r n e = go (eqb (length s) 0) (not (isKind (getD s 0 0))) (ltb (length s) (1 + bodyOf (getD s 0 0))) refl e
+  where
+    go : (a b c : Bool) → ltb (length s) (1 + bodyOf (getD s 0 0)) ≡ c
+        → pick a End (pick b (Refused 1) (pick c (Refused 2) (Got (recordOf s) (1 + bodyOf (getD s 0 0))))) ≡ Got r n → n ≤ length s
+    go true b c f e = let z : _≡_ {A = ℕ} 0 1 = cc in absurd (omega arith)
+    go false true c f e = let z : _≡_ {A = ℕ} 0 1 = cc in absurd (omega arith)
+    go false false true f e = let z : _≡_ {A = ℕ} 0 1 = cc in absurd (omega arith)
+    go false false false f e = let z : 1 + bodyOf (getD s 0 0) ≡ n = cc in omega (arith, ltb-false (length s) (1 + bodyOf (getD s 0 0)) f)
+
+-- what is read at a place, from what was read and the place after it
+pub placed : (s : List ℕ) (at : ℕ) (x : Read) (p : ℕ) → x ≡ readOf (drop at s) → p ≡ placeAfter at x → _≡_ {A = Placed} (record { read = x; place = p }) (placedAt s at)
+unfolding placedAt
+placed s at x p e f = let g : p ≡ placeAfter at (readOf (drop at s)) = f ∙ ap (placeAfter at) e in λ i. record { read = e i; place = g i }
+
+-- and back: what was read is what the rest of the stream begins with, and the place is the one after it
+pub placed-read : (s : List ℕ) (at : ℕ) (r : Placed) → r ≡ placedAt s at → r .read ≡ readOf (drop at s)
+unfolding placedAt
+placed-read s at r e = ap (λ (x : Placed). x .read) e
+
+pub placed-place : (s : List ℕ) (at : ℕ) (r : Placed) → r ≡ placedAt s at → r .place ≡ placeAfter at (r .read)
+unfolding placedAt
+placed-place s at r e = ap (λ (x : Placed). x .place) e ∙ sym (ap (placeAfter at) (placed-read s at r e))

@@ -58,7 +58,7 @@ or-true false b e = inr e
 
 module _ (m : State) where
   -- a tie is what check 12 looks for
-  ties : (w : ℕ) → clashes m w ≡ true → (i : ℕ) × Ties m w i
+  pub ties : (w : ℕ) → clashes m w ≡ true → (i : ℕ) × Ties m w i
   unfolding clashes
   ties w e =
       let x = any-some _ 256 e in
@@ -68,7 +68,7 @@ module _ (m : State) where
       let s = overlap-is (ruleAt m (x .0)) w .0 (d .1) in
       (x .0, record { number = x .1; alive = b .0; node = eqb-true _ _ (c .0); priority = eqb-true _ _ (d .0); shared = s .0; ours = s .1; theirs = s .2 })
 
-  tie-found : (w i : ℕ) → Ties m w i → clashes m w ≡ true
+  pub tie-found : (w i : ℕ) → Ties m w i → clashes m w ≡ true
   unfolding clashes
   tie-found w i x =
       any-true _ 256 i (x .number)

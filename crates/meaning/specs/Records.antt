@@ -1,13 +1,14 @@
 -- The records: one byte of kind, then a body whose length the kind fixes, with its fields in order; and the order of the records.
--- s are the bytes from the record's first on. Assumes nothing: these are definitions.
+-- s are the bytes from the record's first on; a reader's place is a place of the whole stream. Assumes nothing: these are definitions.
 use mathlib.Core.List.{List, [], _∷_}
 use mathlib.Core.Bool.{Bool, _&&_, not}
 use Prim.Native.Nat.{ℕ, zero, suc, _+_, _*_, _%_}
 use lib.Dec.{leb, ltb, eqb}
-use lib.ListN.{length, getD}
+use lib.ListN.{length, getD, drop}
 use Rattle.meaning.specs.Search.{pick}
 use Rattle.meaning.specs.declared.Read.{Read}
 use Rattle.meaning.specs.declared.Read.the-variants.{End, Refused, Got}
+use Rattle.meaning.specs.declared.Placed.{Placed}
 use Rattle.meaning.specs.declared.Record.{Record}
 use Rattle.meaning.specs.declared.Record.the-variants.{Hall as hall, Link as link, Close as close, Insert as insert, Remove as remove, Loop as loop, Fate as fate, Reach as reach, Tally as tally}
 
@@ -47,6 +48,16 @@ readOf s =
     pick (eqb (length s) 0) End
     (pick (not (isKind (getD s 0 0))) (Refused 1)
     (pick (ltb (length s) (1 + bodyOf (getD s 0 0))) (Refused 2) (Got (recordOf s) (1 + bodyOf (getD s 0 0)))))
+
+-- the place after what was read at a place: the record's end; at "end", 1 and 2 the place stays
+unfoldable pub placeAfter : ℕ → Read → ℕ
+placeAfter at End = at
+placeAfter at (Refused k) = at
+placeAfter at (Got r n) = at + n
+
+-- what is read at a place of a stream: what the rest of the stream, from that place on, begins with; and the place after it
+unfoldable pub placedAt : List ℕ → ℕ → Placed
+placedAt stream at = record { read = readOf (drop at stream); place = placeAfter at (readOf (drop at stream)) }
 
 -- the phase that a record belongs in: one hall, then links, then one close, then every other kind
 unfoldable pub phaseOf : Record → ℕ

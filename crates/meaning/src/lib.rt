@@ -64,6 +64,12 @@ pub enum Read {
     Got(Record, usize),
 }
 
+// What is read at a place of a stream, and the place after it.
+pub struct Placed {
+    pub read: Read,
+    pub place: usize,
+}
+
 // What a record's own checks say.
 pub enum Check {
     Passed,

@@ -1,0 +1,144 @@
+-- Two neighbouring updates with different rule numbers, both accepted in either order: the same rules and the same cutting, so every later
+-- step is taken alike. Assumes nothing.
+use mathlib.Core.Path.{_≡_, refl, sym, ap, _∙_}
+use mathlib.Core.Logic.{_↔_, _⊎_, inl, inr, ⊎-elim}
+use mathlib.Core.Option.{some}
+use mathlib.Core.List.{List}
+use Prim.Native.Nat.{ℕ, zero, suc, _+_, _≤_, _<_}
+use native.Mathlib.Omega.{arith}
+use lib.ListN.{length, getD, set}
+use lib.Seq.{ext-getD, set-comm}
+use Rattle.meaning.specs.declared.Answer.the-variants.{Changed}
+use Rattle.meaning.specs.Hall.{top, State}
+use Rattle.meaning.specs.Records.{recordOf}
+use Rattle.meaning.specs.Step.{stepOf}
+use Rattle.meaning.specs.Run.{Came, more}
+use Rattle.meaning.proofs.Tables.{Cuts, Boundary}
+use Rattle.meaning.proofs.Places.{le-or-lt, cut-le}
+use Rattle.meaning.proofs.Sound.{Sound}
+use Rattle.meaning.proofs.Kept.{sound}
+use Rattle.meaning.proofs.Boundaries.{EndsAt, Ended, boundaries}
+use Rattle.meaning.proofs.Demands.{Twins, then, Accepts, Call, since, SameStep, EitherOrder, either}
+use Rattle.meaning.proofs.Twins.{twins}
+use Rattle.meaning.proofs.Taking.{storedBy, Stores, stores, closed-hall}
+use Rattle.meaning.proofs.Renumbered.{Alike, alike-later}
+
+-- ---- the boundaries determine the cutting
+
+module _ {top : ℕ} {c d : List ℕ} {n k : ℕ} (C : Cuts top c n) (D : Cuts top d k)
+    (there : (b : ℕ) → Boundary c n b → Boundary d k b) (back : (b : ℕ) → Boundary d k b → Boundary c n b) where
+  -- place by place the boundaries are the same
+  along : (p : ℕ) → p ≤ n → (p ≤ k) × (getD c p 0 ≡ getD d p 0)
+  along zero h = (omega arith, C .first ∙ sym (D .first))
+  along (suc p) h = go (along p (omega arith))
+    where
+      go : (p ≤ k) × (getD c p 0 ≡ getD d p 0) → (suc p ≤ k) × (getD c (suc p) 0 ≡ getD d (suc p) 0)
+      go (l, e) =
+          let x = there (getD c (suc p) 0) (record { place = suc p; within = h; is = refl }) in
+          let up = C .up p (suc p) (omega arith) h in
+          let past : p < x .place = ⊎-elim (λ (g : x .place ≤ p). absurd (omega (arith, cut-le D (x .place) p g l, x .is))) (λ g. g) (le-or-lt (x .place) p) in
+          let low : getD d (suc p) 0 ≤ getD c (suc p) 0 = omega (arith, cut-le D (suc p) (x .place) past (x .within), x .is) in
+          let more : suc p ≤ k = omega (arith, x .within) in
+          let y = back (getD d (suc p) 0) (record { place = suc p; within = more; is = refl }) in
+          let up′ = D .up p (suc p) (omega arith) more in
+          let past′ : p < y .place = ⊎-elim (λ (g : y .place ≤ p). absurd (omega (arith, cut-le C (y .place) p g (omega arith), y .is))) (λ g. g) (le-or-lt (y .place) p) in
+          let high : getD c (suc p) 0 ≤ getD d (suc p) 0 = omega (arith, cut-le C (suc p) (y .place) past′ (y .within), y .is) in
+          (more, omega arith)
+
+-- THE LAW: two cuttings with the same boundaries are the same
+pub same-cuts : {top : ℕ} {c d : List ℕ} {n k : ℕ} → Cuts top c n → Cuts top d k → ((b : ℕ) → Boundary c n b ↔ Boundary d k b) → (n ≡ k) × (c ≡ d)
+same-cuts {top} {c} {d} {n} {k} C D f = (many, ext-getD 0 c d (C .long ∙ sym (D .long)) (λ i h. at i (le-or-lt i n)))
+  where
+    many : n ≡ k
+    many = omega (arith, along C D (λ b. f b .0) (λ b. f b .1) n (omega arith) .0, along D C (λ b. f b .1) (λ b. f b .0) k (omega arith) .0)
+
+    at : (i : ℕ) → (i ≤ n) ⊎ (n < i) → getD c i 0 ≡ getD d i 0
+    at i (inl h) = along C D (λ b. f b .0) (λ b. f b .1) i h .1
+    at i (inr h) = C .rest i h ∙ sym (D .rest i (omega (arith, many)))
+
+-- ---- two updates
+
+module _ (m : State) (room room′ : ℕ) (s t : List ℕ) (i j : ℕ) (c : Came m) (apart : i ≡ j → ⊥)
+    (one : Accepts m room s i) (two : Accepts (then m room s) room′ t j) (one′ : Accepts m room′ t j) (two′ : Accepts (then m room′ t) room s i) where
+  abbrev x : State
+  x = then (then m room s) room′ t
+
+  abbrev y : State
+  y = then (then m room′ t) room s
+
+  came-x : Came x
+  came-x = more room′ t (more room s c)
+
+  came-y : Came y
+  came-y = more room s (more room′ t c)
+
+  swapped-rules : x .rule ≡ y .rule
+  swapped-rules =
+      stores (then m room s) room′ t j two .rule
+      ∙ ap (λ (rs : List ℕ). set rs j (storedBy (recordOf t))) (stores m room s i one .rule)
+      ∙ set-comm (m .rule) i j (storedBy (recordOf s)) (storedBy (recordOf t)) apart
+      ∙ sym (ap (λ (rs : List ℕ). set rs i (storedBy (recordOf s))) (stores m room′ t j one′ .rule))
+      ∙ sym (stores (then m room′ t) room s i two′ .rule)
+
+  -- an end that one step makes a boundary, the other does too
+  moved : (o p : State) (room : ℕ) (u : List ℕ) (k : ℕ) → Accepts p room u k → (b : ℕ) → EndsAt o room u b → EndsAt p room u b
+  moved o p room u k A b e = record { taken = e .taken; bytes = e .bytes; count = A .count; reads = e .reads; ok = A .ok; end = e .end }
+
+  same-boundary : (b : ℕ) → Boundary (x .cut) (x .atoms) b ↔ Boundary (y .cut) (y .atoms) b
+  unfolding Ended came-x came-y
+  same-boundary b = (λ h. boundaries y came-y b .1 (there (boundaries x came-x b .0 h)), λ h. boundaries x came-x b .1 (back (boundaries y came-y b .0 h)))
+    where
+      there : ((b ≡ 0) ⊎ (b ≡ top)) ⊎ ((Ended c b ⊎ EndsAt m room s b) ⊎ EndsAt (then m room s) room′ t b)
+          → ((b ≡ 0) ⊎ (b ≡ top)) ⊎ ((Ended c b ⊎ EndsAt m room′ t b) ⊎ EndsAt (then m room′ t) room s b)
+      there (inl h) = inl h
+      there (inr (inl (inl h))) = inr (inl (inl h))
+      there (inr (inl (inr h))) = inr (inr (moved _ _ room s i two′ b h))
+      there (inr (inr h)) = inr (inl (inr (moved _ _ room′ t j one′ b h)))
+
+      back : ((b ≡ 0) ⊎ (b ≡ top)) ⊎ ((Ended c b ⊎ EndsAt m room′ t b) ⊎ EndsAt (then m room′ t) room s b)
+          → ((b ≡ 0) ⊎ (b ≡ top)) ⊎ ((Ended c b ⊎ EndsAt m room s b) ⊎ EndsAt (then m room s) room′ t b)
+      back (inl h) = inl h
+      back (inr (inl (inl h))) = inr (inl (inl h))
+      back (inr (inl (inr h))) = inr (inr (moved _ _ room′ t j two b h))
+      back (inr (inr h)) = inr (inl (inr (moved _ _ room s i one b h)))
+
+  -- THE LAW: the cutting is the same
+  same-cutting : (x .atoms ≡ y .atoms) × (x .cut ≡ y .cut)
+  same-cutting = same-cuts (sound x came-x .cuts) (sound y came-y .cuts) same-boundary
+
+  -- what neither of two updates touches
+  kept : {A : Type 0} (f : State → A) → ((o p : State) (k w : ℕ) → Stores o p k w → f p ≡ f o) → f x ≡ f y
+  kept f h =
+      h _ _ _ _ (stores _ room′ t j two) ∙ h _ _ _ _ (stores _ room s i one)
+      ∙ sym (h _ _ _ _ (stores _ room′ t j one′)) ∙ sym (h _ _ _ _ (stores _ room s i two′))
+
+  same-alike : Alike x y
+  same-alike = record {
+    phase = kept (λ o. o .phase) (λ o p k w S. S .phase);
+    nodes = kept (λ o. o .nodes) (λ o p k w S. S .nodes);
+    links = kept (λ o. o .links) (λ o p k w S. S .links);
+    atoms = same-cutting .0;
+    link = kept (λ o. o .link) (λ o p k w S. S .link);
+    rule = swapped-rules;
+    cut = same-cutting .1;
+  }
+
+  -- so the two histories end with the same live rules,
+  same-twins : Twins x y
+  same-twins =
+      let A = same-alike in
+      let ph : x .phase ≡ 2 = stores _ room′ t j two .phase ∙ closed-hall _ room′ t j two in
+      twins x y came-x came-y ph (sym (A .phase) ∙ ph) (A .nodes) (A .links) (A .link) (A .rule)
+
+pub swapped-twins : {x y : State} → EitherOrder x y → Twins x y
+swapped-twins (either room room′ s t i j c a one two one′ two′) = same-twins _ room room′ s t i j c a one two one′ two′
+
+pub swapped-cutting : {x y : State} → EitherOrder x y → (x .atoms ≡ y .atoms) × (x .cut ≡ y .cut)
+swapped-cutting (either room room′ s t i j c a one two one′ two′) = same-cutting _ room room′ s t i j c a one two one′ two′
+
+swapped-alike : {x y : State} → EitherOrder x y → Alike x y
+swapped-alike (either room room′ s t i j c a one two one′ two′) = same-alike _ room room′ s t i j c a one two one′ two′
+
+-- THE LAW: every later step is taken alike
+pub swapped-later : {x y : State} → EitherOrder x y → (calls : List Call) (room : ℕ) (s : List ℕ) → SameStep (stepOf (since x calls) room s) (stepOf (since y calls) room s)
+swapped-later {x} {y} E = alike-later x y (swapped-alike E)
