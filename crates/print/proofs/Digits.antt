@@ -1,15 +1,13 @@
--- The digits of a number: from one to four at once, and how many there are. Assumes nothing.
-use mathlib.Core.Path.{_≡_, refl, sym, ap, _∙_, subst}
+-- The digits of a number, from one to eight at once. Assumes nothing.
+use mathlib.Core.Path.{_≡_, refl, ap, _∙_}
 use mathlib.Core.List.{List, [], _∷_, _++_, append-assoc}
 use mathlib.Core.Bool.{Bool, true, false}
-use Prim.Native.Nat.{ℕ, zero, suc, _+_, _*_, _/_, _%_, _^_, _≤_, _<_}
-use native.Mathlib.Nat.{pow-suc}
+use Prim.Native.Nat.{ℕ, zero, suc, _+_, _/_, _%_, _≤_, _<_}
 use native.Mathlib.Omega.{arith}
 use lib.Dec.{ltb}
-use lib.ListN.{length, length-append}
-use borrow.Author.Tests.{lt-ltb, le-ltb, ltb-true, ltb-false}
+use borrow.Author.Tests.{lt-ltb, le-ltb, ltb-false}
 use Rattle.meaning.specs.Search.{pick}
-use Rattle.print.specs.Text.{spelled, decimal, pair, four}
+use Rattle.print.specs.Text.{spelled, decimal, pair, four, eight}
 
 -- how many digits are allowed does not matter, once they are enough
 spelled-same : (j k n : ℕ) → n < j → n < k → spelled j n ≡ spelled k n
@@ -63,13 +61,13 @@ more n h =
     ∙ append-assoc (decimal (n / 100 / 100)) (pair (n / 100 % 100)) (pair (n % 100))
     ∙ rw (e₁, e₂, e₃)
 
--- a number below 10 ^ (k + 1) has k + 1 digits at most
-pub few : (k n : ℕ) → n < 10 ^ suc k → length (decimal n) ≤ suc k
-few zero n h = omega (arith, ap length (one n h))
-few (suc k) n h = go (ltb n 10) refl (few k (n / 10)) where
-  go : (b : Bool) → ltb n 10 ≡ b → (n / 10 < 10 ^ suc k → length (decimal (n / 10)) ≤ suc k) → length (decimal n) ≤ suc (suc k)
-  go true e f = omega (arith, ap length (one n (ltb-true n 10 e)))
-  go false e f =
-      let less : n / 10 < 10 ^ suc k = omega (arith, pow-suc 10 (suc k)) in
-      let s = ap length (step n (ltb-false n 10 e)) ∙ length-append (decimal (n / 10)) ((48 + n % 10) ∷ []) in
-      omega (arith, s, f less)
+-- all but the last eight, and those
+pub most : (n : ℕ) → 100000000 ≤ n → decimal n ≡ decimal (n / 100000000) ++ eight (n % 100000000)
+most n h =
+    let e₁ : n / 10000 / 10000 ≡ n / 100000000 = omega arith in
+    let e₂ : n / 10000 % 10000 ≡ n % 100000000 / 10000 = omega arith in
+    let e₃ : n % 10000 ≡ n % 100000000 % 10000 = omega arith in
+    more n (omega arith)
+    ∙ ap (λ (s : List ℕ). s ++ four (n % 10000)) (more (n / 10000) (omega arith))
+    ∙ append-assoc (decimal (n / 10000 / 10000)) (four (n / 10000 % 10000)) (four (n % 10000))
+    ∙ rw (e₁, e₂, e₃)

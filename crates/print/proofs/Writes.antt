@@ -1,7 +1,7 @@
 -- Writing one text after another writes the two joined. Assumes nothing.
-use mathlib.Core.Path.{_≡_, refl, sym, ap, _∙_, subst}
+use mathlib.Core.Path.{_≡_, refl, sym, ap, _∙_}
 use mathlib.Core.List.{List, [], _∷_, _++_}
-use Prim.Native.Nat.{ℕ, zero, suc, _+_, _≤_, _<_}
+use Prim.Native.Nat.{ℕ, suc, _+_, _≤_, _<_}
 use native.Mathlib.Nat.{add-zero, add-suc, suc-add}
 use native.Mathlib.Omega.{arith}
 use native.Mathlib.Numerals.{add-one}
@@ -36,15 +36,6 @@ also {m} {n} {xs} {ys} {old} {new} {at} {next} e h w = record {
   moved = w .moved ∙ ap (λ (s : List ℕ). at + length s) e;
   kept = w .kept;
   near = omega (arith, w .near);
-}
-
--- a bound by the text itself
-pub short : {m n : ℕ} {xs old new : List ℕ} {at next : ℕ} → length xs ≤ n → Wrote m xs old new at next → Wrote n xs old new at next
-short h w = record {
-  bytes = w .bytes;
-  moved = w .moved;
-  kept = w .kept;
-  near = omega (arith, w .moved);
 }
 
 -- one byte more of a text that is copied byte by byte

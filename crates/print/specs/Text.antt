@@ -17,12 +17,15 @@ spelled (suc k) n = pick (ltb n 10) ((48 + n) ∷ []) (spelled k (n / 10) ++ ((4
 unfoldable pub decimal : ℕ → List ℕ
 decimal n = spelled (suc n) n
 
--- the two digits of a number below 100, and the four of one below 10,000
+-- the two digits of a number below 100, the four of one below 10,000 and the eight of one below 100,000,000
 abbrev pub pair : ℕ → List ℕ
 pair n = (48 + n / 10) ∷ (48 + n % 10) ∷ []
 
 abbrev pub four : ℕ → List ℕ
 four n = pair (n / 100) ++ pair (n % 100)
+
+abbrev pub eight : ℕ → List ℕ
+eight n = four (n / 10000) ++ four (n % 10000)
 
 -- THE CONTRACT of all that writes: the text stands in the buffer from the place on, everything else is as it was, and the next
 -- place is just behind it. The last two follow from the first two: the buffer's length is kept, and the text has few bytes.

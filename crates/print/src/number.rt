@@ -3,7 +3,7 @@ ghost use mathlib.Core.Path.{_≡_};
 ghost use mathlib.Core.List.{[], _∷_};
 ghost use Prim.Native.Nat.{_+_, _<_, _≤_};
 ghost use lib.ListN.{length};
-ghost use Rattle.print.specs.Text.{Wrote, decimal, pair, four};
+ghost use Rattle.print.specs.Text.{Wrote, decimal, pair, four, eight};
 
 // One byte.
 pub fn put_byte(buf: &mut [u8], at: usize, b: u8) -> usize
@@ -66,14 +66,43 @@ fn put_small(buf: &mut [u8], at: usize, n: u32) -> usize
     put_four(buf, at, n)
 }
 
-// A number: what is above its last four digits, then those.
+// The eight digits of a number below 100,000,000.
+fn put_eight(buf: &mut [u8], at: usize, n: u32) -> usize
+    requires { ⌜ at + 8 ≤ length (now buf) ⌝ }
+    requires { ⌜ n < 100000000 ⌝ }
+    ensures { λ r. ⌜ Wrote 8 (eight n) (now (buf .entry)) (now (buf .exit)) at r ⌝ }
+{
+    let next = put_four(buf, at, n / 10000);
+    put_four(buf, next, n % 10000)
+}
+
+// A number below 100,000,000, with no zero in front.
+fn put_middle(buf: &mut [u8], at: usize, n: u32) -> usize
+    requires { ⌜ at + 8 ≤ length (now buf) ⌝ }
+    requires { ⌜ n < 100000000 ⌝ }
+    ensures { λ r. ⌜ Wrote 8 (decimal n) (now (buf .entry)) (now (buf .exit)) at r ⌝ }
+{
+    if n < 10000 {
+        return put_small(buf, at, n);
+    }
+    let next = put_small(buf, at, n / 10000);
+    put_four(buf, next, n % 10000)
+}
+
+// Any number, with no zero in front. An address has at most ten digits: the last way is for numbers that no box has.
 pub fn put_number(buf: &mut [u8], at: usize, n: u64) -> usize
     requires { ⌜ at + 20 ≤ length (now buf) ⌝ }
     ensures { λ r. ⌜ Wrote 20 (decimal n) (now (buf .entry)) (now (buf .exit)) at r ⌝ }
 {
-    if n < 10000 {
-        return put_small(buf, at, n as u32);
+    if n < 100000000 {
+        return put_middle(buf, at, n as u32);
     }
-    let next = put_number(buf, at, n / 10000);
-    put_four(buf, next, (n % 10000) as u32)
+    let high = n / 100000000;
+    if high < 10000 {
+        let next = put_small(buf, at, high as u32);
+        return put_eight(buf, next, (n % 100000000) as u32);
+    }
+    let first = put_middle(buf, at, (high / 10000) as u32);
+    let next = put_four(buf, first, (high % 10000) as u32);
+    put_eight(buf, next, (n % 100000000) as u32)
 }

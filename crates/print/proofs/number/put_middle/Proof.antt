@@ -1,0 +1,48 @@
+-- `print::number::put_middle` meets its contract. Assumes nothing.
+use borrow.Author.Needs.{needs}
+use mathlib.Core.Path.{sym}
+use native.Mathlib.Omega.{arith}
+use Rattle.print.proofs.Writes.{both, also}
+use Rattle.print.proofs.Digits.{more}
+use Rattle.print.proofs.number.put_middle.Statement.{statement}
+use Rattle.print.proofs.number.put_middle.Tie as tie
+use Rattle.print.proofs.number.put_middle.Reads as reads
+use Rattle.print.proofs.number.put_middle.Lts as lts
+use Rattle.print.proofs.number.put_four.Reads as put-four-reads
+use Rattle.print.proofs.number.put_small.Reads as put-small-reads
+
+put-small-requires : tie.Need-put-small-requires
+put-small-requires c κs = search needs
+
+same-length : tie.Need-same-length
+same-length c = search needs
+
+returns : tie.Need-returns
+returns c = search needs
+
+put-small-requires-2 : tie.Need-put-small-requires-2
+put-small-requires-2 c κs = search needs
+
+put-four-requires : tie.Need-put-four-requires
+put-four-requires c κs = search needs
+
+same-length-2 : tie.Need-same-length-2
+same-length-2 c = search needs
+
+returns-2 : tie.Need-returns-2
+returns-2 c =
+    let d = c .before .before in
+    let n = d .before .before .before .before .before .before .before .before .args .n in
+    also (sym (more n (omega arith))) (omega arith) (both (d .before .before .before .before .put-small2 .ensures) (d .put-four .ensures))
+
+pub put-middle-spec : {M : Type 1} → statement M
+put-middle-spec =
+    tie.close
+    (tie.spec
+    put-small-requires
+    same-length
+    returns
+    put-small-requires-2
+    put-four-requires
+    same-length-2
+    returns-2)
