@@ -77,7 +77,7 @@ pub record Cleared (x : Lent) : Type 0 where
 pub clear-box-once : (x y : Lent) → Cleared x → Cleared y → x ≡ y
 clear-box-once x y p q = lent-once x y (p .state-is ∙ sym (q .state-is)) (p .labels ∙ sym (q .labels)) (p .owners ∙ sym (q .owners))
 
--- `hall::lowest_on`: what was found determines the answer
+-- `labels::lowest_on`: what was found determines the answer
 foundAs : Option ℕ → Found
 foundAs none = Nothing
 foundAs (some i) = At i
