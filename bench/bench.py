@@ -1,20 +1,7 @@
 #!/usr/bin/env python3
-"""bench.py [--seeds LIST] [--reps N] [--streams LIST] [--peers LIST] [--no-count] [--save DIR]
-
-Measures hallcheck against its peers on generated streams near 65,536 bytes, and checks that all outputs are equal, byte for byte.
-
-  --seeds LIST    the seeds of the streams (default 1,2,3)
-  --reps N        runs of each program on each stream (default 5), in turn
-  --streams LIST  which classes of streams (default all; --list tells them)
-  --peers LIST    which peers (default all): deltanet, delta, labels, flat, flat-delta, veriflow, veriflow-delta
-  --no-count      count no instructions
-  --save DIR      keep the streams there
-
-Time is that of the processor, user and system, less that of a run on empty input. Instructions are counted by perf where the machine
-counts them, else by valgrind or, where the processor is not x86-64, by the emulator. Each figure is the median over the seeds; a ratio
-is the program's figure to hallcheck's on the same stream, so above 1 means that hallcheck is faster."""
+# Measures hallcheck beside the peers on generated streams, checks that all outputs are equal, and prints the table and the goals.
 import argparse
-import hashlib
+import datetime
 import os
 import random
 import re
@@ -24,12 +11,38 @@ import subprocess
 import sys
 import tempfile
 
+HOW = """Each program runs in turn on streams near 65,536 bytes, and its output is compared byte for byte with that of hallcheck. Time is that
+of the processor, user and system, the median of the runs, less the median on empty input. Instructions are those of the program and not of the kernel,
+less those on empty input: counted by perf where the machine counts them, else by valgrind or, where the processor is not x86-64, by the emulator.
+Each figure is the median over the seeds. A ratio is the peer's figure divided by that of hallcheck on the same stream, the median over the
+seeds: above 1, hallcheck is faster."""
 here = os.path.dirname(os.path.abspath(__file__))
 root = os.path.dirname(here)
 BUILT = os.path.join(root, 'target', 'bench')
 NATIVE = os.uname().machine == 'x86_64'
 LIMIT = 65536
 TOP = 1 << 32
+
+# The program below target/bench and its words, of each peer.
+PEERS = {
+    'deltanet': ['deltanet'],
+    'deltanet-delta': ['deltanet', '--delta'],
+    'deltanet-labels': ['deltanet', '--labels'],
+    'deltanet-flat': ['deltanet-flat'],
+    'deltanet-flat-delta': ['deltanet-flat', '--delta'],
+    'veriflow': ['veriflow'],
+    'veriflow-delta': ['veriflow', '--delta'],
+}
+
+# The peers that answer each loop question by a full search.
+FULL_SEARCH = ('deltanet', 'deltanet-flat', 'veriflow')
+
+# The goals: the ratio that is wanted at least, the peers, and the classes of streams (all where none is named).
+GOALS = (
+    (2, ('deltanet',), ('updates+loop', 'full256+loop', 'questions')),
+    (1, ('deltanet-flat',), ('updates', 'full256')),
+    (1, FULL_SEARCH, ()),
+)
 
 # ---------------------------------------------------------------- streams
 
@@ -219,24 +232,27 @@ STREAMS = {
 # ---------------------------------------------------------------- running
 
 
+def build():
+    """Proves and builds hallcheck where its source changed."""
+    made = subprocess.run(['rt', 'check', 'hallcheck'], cwd=root, stdout=subprocess.PIPE, stderr=subprocess.STDOUT, text=True)
+    if made.returncode:
+        raise SystemExit(made.stdout + 'rt check hallcheck failed; --as-built measures the program as it stands')
+
+
 def ours():
     """The command of hallcheck, as rt runs it."""
     return subprocess.run([os.path.join(root, 'tools', 'run'), '--words', 'hallcheck'],
                           check=True, stdout=subprocess.PIPE, text=True).stdout.split('\n')[:-1]
 
 
-def peers(which, emulator):
-    known = {
-        'deltanet': ['deltanet'],
-        'delta': ['deltanet', '--delta'],
-        'labels': ['deltanet', '--labels'],
-        'flat': ['deltanet-flat'],
-        'flat-delta': ['deltanet-flat', '--delta'],
-        'veriflow': ['veriflow'],
-        'veriflow-delta': ['veriflow', '--delta'],
-    }
-    names = list(known) if which == 'all' else which.split(',')
-    return {k: emulator + [os.path.join(BUILT, known[k][0])] + known[k][1:] for k in names}
+def programs(which):
+    """The commands of hallcheck and of the peers."""
+    words = ours()
+    emulator = [] if NATIVE else words[:1]
+    progs = {'hallcheck': words}
+    for k in which:
+        progs[k] = emulator + [os.path.join(BUILT, PEERS[k][0])] + PEERS[k][1:]
+    return progs
 
 
 def run(cmd, stream, out):
@@ -250,9 +266,19 @@ def run(cmd, stream, out):
     return used.ru_utime + used.ru_stime
 
 
-def digest(path):
+def read(path):
     with open(path, 'rb') as f:
-        return hashlib.sha256(f.read()).hexdigest()
+        return f.read()
+
+
+def write(path, data):
+    with open(path, 'wb') as f:
+        f.write(data)
+
+
+def scratch():
+    """A directory for streams and outputs, in memory where there is one."""
+    return tempfile.TemporaryDirectory(dir='/dev/shm' if os.access('/dev/shm', os.W_OK) else None)
 
 
 # ---------------------------------------------------------------- counting instructions
@@ -277,100 +303,179 @@ def by_valgrind(cmd, stream, tmp):
 
 def by_emulator(cmd, stream, tmp):
     count = os.path.join(tmp, 'count')
+    write(count, b'')
     plugin = '%s,out=%s' % (os.path.join(BUILT, 'insncount.so'), count)
     piped(['/usr/bin/qemu-x86_64', '-plugin', plugin] + cmd[1:], stream)
-    with open(count) as f:
-        return int(f.read())
+    return int(read(count) or 0) or None
 
 
-def counter(tmp, empty):
-    """A way to count instructions that works here, and its name."""
-    ways = []
-    if NATIVE and shutil.which('perf'):
-        ways.append(('perf', by_perf))
-    if NATIVE and shutil.which('valgrind'):
-        ways.append(('valgrind', by_valgrind))
-    if not NATIVE and os.path.exists(os.path.join(BUILT, 'insncount.so')):
-        return by_emulator, 'the emulator'
-    for name, way in ways:
-        if way([shutil.which('true')], empty, tmp):
+def counter(cmd, tmp, exact=False):
+    """A way to count instructions that works here, and its name; perf is left out where exact counts are wanted."""
+    ways = [('valgrind', by_valgrind, shutil.which('valgrind'))] if NATIVE else [
+        ('the emulator', by_emulator, os.path.exists(os.path.join(BUILT, 'insncount.so')))]
+    if NATIVE and not exact:
+        ways.insert(0, ('perf', by_perf, shutil.which('perf')))
+    empty = os.path.join(tmp, 'empty')
+    write(empty, b'')
+    for name, way, there in ways:
+        if there and way(cmd, empty, tmp):
             return way, name
-    return None, 'nothing: there is neither perf with counters nor valgrind (or, elsewhere, qemu-user)'
+    return None, 'nothing: neither perf with counters nor valgrind nor, where the processor is not x86-64, qemu-user is there'
 
 
-# ---------------------------------------------------------------- the table
+# ---------------------------------------------------------------- measuring
 
 
-def measure(progs, data, reps, count, tmp):
-    """For each program: processor ms and instructions, each less those of an empty run; and the output's digest."""
+class Class:
+    """The figures of one class of streams: for each program, one of each seed."""
+
+    def __init__(self, name, progs):
+        self.name, self.same = name, True
+        self.ms = {k: [] for k in progs}
+        self.insns = {k: [] for k in progs}
+
+    def middle(self, kind, k):
+        return statistics.median(getattr(self, kind)[k])
+
+    def ratio(self, kind, k):
+        pairs = zip(getattr(self, kind)[k], getattr(self, kind)['hallcheck'])
+        return statistics.median([x / y for x, y in pairs])
+
+
+def measure(found, progs, data, reps, count, start, tmp):
+    """Adds the figures of one stream. `start` keeps the instructions on empty input."""
     stream, empty, out = (os.path.join(tmp, f) for f in ('stream', 'empty', 'out'))
-    with open(stream, 'wb') as f:
-        f.write(data)
+    write(stream, data)
+    write(empty, b'')
     names = list(progs)
-    start, full, seen = {k: [] for k in names}, {k: [] for k in names}, {k: set() for k in names}
+    idle, full, seen = {k: [] for k in names}, {k: [] for k in names}, set()
     for rep in range(reps):
         for k in names[rep % len(names):] + names[:rep % len(names)]:
-            start[k].append(run(progs[k], empty, out))
+            idle[k].append(run(progs[k], empty, out))
             full[k].append(run(progs[k], stream, out))
-            seen[k].add(digest(out))
-    ms = {k: max(1e-3, 1e3 * (statistics.median(full[k]) - statistics.median(start[k]))) for k in names}
-    insns = {k: count(progs[k], stream, tmp) - count(progs[k], empty, tmp) for k in names} if count else None
-    return ms, insns, len(set().union(*seen.values())) == 1
+            seen.add(read(out))
+    found.same = found.same and len(seen) == 1
+    for k in names:
+        found.ms[k].append(max(1e-3, 1e3 * (statistics.median(full[k]) - statistics.median(idle[k]))))
+        if count:
+            if k not in start:
+                start[k] = count(progs[k], empty, tmp)
+            found.insns[k].append(count(progs[k], stream, tmp) - start[k])
+
+
+def measure_class(name, progs, seeds, reps, count, start, tmp, save):
+    found = Class(name, progs)
+    for seed in seeds:
+        data = STREAMS[name][1](random.Random('%d/%s' % (seed, name)))
+        if save:
+            os.makedirs(save, exist_ok=True)
+            write(os.path.join(save, '%s-%d.bin' % (name.replace('/', '-'), seed)), data)
+        measure(found, progs, data, reps, count, start, tmp)
+    return found
+
+
+# ---------------------------------------------------------------- the table and the goals
+
+
+def show(found, progs, counted):
+    print('\n%s: %s; outputs %s' % (found.name, STREAMS[found.name][0], 'equal' if found.same else 'DIFFER'))
+    print('  %-20s %9s %8s' % ('program', 'ms', 'ratio') + ('  %13s %8s' % ('instructions', 'ratio') if counted else ''))
+    for k in progs:
+        line = '  %-20s %9.2f %8.2f' % (k, found.middle('ms', k), found.ratio('ms', k))
+        if counted:
+            line += '  %13d %8.2f' % (found.middle('insns', k), found.ratio('insns', k))
+        print(line, flush=True)
+
+
+def goals(classes, progs, counted):
+    """For each goal that was measured: the class, the peer, the ratio wanted, and whether each kind of figure has it."""
+    kinds = ('insns', 'ms') if counted else ('ms',)
+    for least, peers, names in GOALS:
+        there = [k for k in peers if k in progs]
+        for c in classes:
+            if there and (not names or c.name in names):
+                near = [min(there, key=lambda k: c.ratio(kind, k)) for kind in kinds]
+                got = [c.ratio(kind, k) for kind, k in zip(kinds, near)]
+                yield c.name, peers, least, near, got, [x >= least for x in got]
+
+
+def show_goals(classes, progs, counted):
+    print('\ngoals (ratio by %s)' % ('instructions, by time' if counted else 'time'))
+    for name, peers, least, near, got, met in goals(classes, progs, counted):
+        said = ', '.join('%.2f to %s %s' % (x, k, 'met' if y else 'MISSED') for x, k, y in zip(got, near, met))
+        print('  %-15s at least %d: %s' % (name, least, said))
+
+
+def machine():
+    """The kind of processor."""
+    try:
+        found = re.search(r'^model name\s*: (.*)$', open('/proc/cpuinfo').read(), re.M)
+    except OSError:
+        found = None
+    return (found.group(1) if found else os.uname().machine) + ('' if NATIVE else ', x86-64 emulated')
+
+
+def markdown(classes, progs, counted, said):
+    peers = [k for k in progs if k != 'hallcheck']
+    yield said + '\n'
+    yield '| Class | hallcheck | ' + ' | '.join('`%s`' % k for k in peers) + ' |'
+    yield '|---' * (len(peers) + 2) + '|'
+    for c in classes:
+        mine = ('%.1f M, ' % (c.middle('insns', 'hallcheck') / 1e6) if counted else '') + '%.1f ms' % c.middle('ms', 'hallcheck')
+        cells = [('%.2f / ' % c.ratio('insns', k) if counted else '') + '%.2f' % c.ratio('ms', k) for k in peers]
+        yield '| %s | %s | ' % (c.name + ('' if c.same else ' (OUTPUTS DIFFER)'), mine) + ' | '.join(cells) + ' |'
+    kind = 'by instructions / by time' if counted else 'by time'
+    yield '\n| Goal | Class | Ratio, %s | Met |\n|---|---|---|---|' % kind
+    for name, names, least, near, got, met in goals(classes, progs, counted):
+        beside = ' / '.join('%.2f' % x + ('' if len(names) == 1 else ' `%s`' % k) for x, k in zip(got, near))
+        goal = 'at least %d times %s' % (least, ', '.join('`%s`' % k for k in names)) if least > 1 else \
+            'no slower than ' + ', '.join('`%s`' % k for k in names)
+        yield '| %s | %s | %s | %s |' % (goal, name, beside, ' / '.join('yes' if y else 'no' for y in met))
+
+
+def options():
+    p = argparse.ArgumentParser(prog='bench/run', description=HOW)
+    p.add_argument('--seeds', default='1,2,3', help='the seeds of the streams (1,2,3)')
+    p.add_argument('--reps', type=int, default=5, help='runs of each program on each stream, in turn (5)')
+    p.add_argument('--streams', default=','.join(STREAMS), help='which classes of streams (all)')
+    p.add_argument('--peers', default=','.join(PEERS), help='which peers: %(default)s (all)')
+    p.add_argument('--no-count', action='store_true', help='count no instructions')
+    p.add_argument('--save', metavar='DIR', help='keep the streams there')
+    p.add_argument('--markdown', metavar='FILE', help='write the table and the goals there too')
+    p.add_argument('--as-built', action='store_true', help='measure target/bin/hallcheck as it stands, without rt check')
+    p.add_argument('--list', action='store_true', help='tell the classes of streams, and nothing else')
+    a = p.parse_args()
+    for given, known in ((a.streams, STREAMS), (a.peers, PEERS)):
+        for k in given.split(','):
+            if k and k not in known:
+                p.error('%s is none of: %s' % (k, ', '.join(known)))
+    return a
 
 
 def main():
-    p = argparse.ArgumentParser(usage=__doc__)
-    p.add_argument('--seeds', default='1,2,3')
-    p.add_argument('--reps', type=int, default=5)
-    p.add_argument('--streams', default=','.join(STREAMS))
-    p.add_argument('--peers', default='all')
-    p.add_argument('--no-count', action='store_true')
-    p.add_argument('--save')
-    p.add_argument('--list', action='store_true')
-    a = p.parse_args()
+    a = options()
     if a.list:
         for k, (text, _) in STREAMS.items():
             print('%-15s %s' % (k, text))
         return 0
-    words = ours()
-    emulator = [] if NATIVE else words[:1]
-    progs = {'hallcheck': words}
-    progs.update(peers(a.peers, emulator))
-    seeds = [int(s) for s in a.seeds.split(',')]
-    bad = 0
-    with tempfile.TemporaryDirectory(dir='/dev/shm' if os.access('/dev/shm', os.W_OK) else None) as tmp:
-        empty = os.path.join(tmp, 'empty')
-        open(empty, 'wb').close()
-        count, name = (None, 'nothing') if a.no_count else counter(tmp, empty)
-        print('seeds %s, %d runs each; instructions counted by %s' % (a.seeds, a.reps, name))
+    if not a.as_built:
+        build()
+    progs = programs([k for k in a.peers.split(',') if k])
+    classes, start = [], {}
+    with scratch() as tmp:
+        count, name = (None, 'nothing') if a.no_count else counter(progs['hallcheck'], tmp)
+        said = '%s, %s; seeds %s, %d runs each; instructions counted by %s' % (
+            datetime.date.today(), machine(), a.seeds, a.reps, name)
+        print(said)
         for k in a.streams.split(','):
-            text, make = STREAMS[k]
-            took, used, same = {q: [] for q in progs}, {q: [] for q in progs}, True
-            for seed in seeds:
-                data = make(random.Random('%d/%s' % (seed, k)))
-                if a.save:
-                    os.makedirs(a.save, exist_ok=True)
-                    with open(os.path.join(a.save, '%s-%d.bin' % (k.replace('/', '-'), seed)), 'wb') as f:
-                        f.write(data)
-                ms, insns, equal = measure(progs, data, a.reps, count, tmp)
-                same = same and equal
-                for q in progs:
-                    took[q].append(ms[q])
-                    if insns:
-                        used[q].append(insns[q])
-            bad += not same
-            print('\n%s: %s; outputs %s' % (k, text, 'equal' if same else 'DIFFER'))
-            print('  %-15s %9s %8s' % ('program', 'ms', 'ratio') + ('  %13s %8s' % ('instructions', 'ratio') if count else ''))
-            middle = lambda figures: statistics.median(figures)
-            for q in progs:
-                ratio = middle([x / y for x, y in zip(took[q], took['hallcheck'])])
-                line = '  %-15s %9.2f %8.2f' % (q, middle(took[q]), ratio)
-                if count:
-                    ratio = middle([x / y for x, y in zip(used[q], used['hallcheck'])])
-                    line += '  %13d %8.2f' % (middle(used[q]), ratio)
-                print(line, flush=True)
-    print('\nratio: to hallcheck on the same stream; above 1, hallcheck is faster')
-    return 1 if bad else 0
+            classes.append(measure_class(k, progs, [int(s) for s in a.seeds.split(',')], a.reps, count, start, tmp, a.save))
+            show(classes[-1], progs, count)
+    print('\nratio: the peer to hallcheck on the same stream; above 1, hallcheck is faster')
+    show_goals(classes, progs, count)
+    if a.markdown:
+        with open(a.markdown, 'w') as f:
+            f.write('\n'.join(markdown(classes, progs, count, said)) + '\n')
+    return 0 if all(c.same for c in classes) else 1
 
 
 if __name__ == '__main__':
