@@ -234,6 +234,8 @@ STREAMS = {
 
 def build():
     """Proves and builds hallcheck where its source changed."""
+    if not shutil.which('rt'):
+        raise SystemExit('bench: there is no rt on the PATH')
     made = subprocess.run(['rt', 'check', 'hallcheck'], cwd=root, stdout=subprocess.PIPE, stderr=subprocess.STDOUT, text=True)
     if made.returncode:
         raise SystemExit(made.stdout + 'rt check hallcheck failed; --as-built measures the program as it stands')
