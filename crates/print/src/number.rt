@@ -154,3 +154,17 @@ pub fn put_number(buf: &mut [u8], at: usize, n: u64) -> usize
     let next = put_head(buf, at, n / 100000000);
     put_eight(buf, next, (n % 100000000) as u32)
 }
+
+// Any number, with no zero in front: a number below 100, as a link's is, the shortest way.
+pub fn put_short(buf: &mut [u8], at: usize, n: u64) -> usize
+    requires { ⌜ at + 20 ≤ length (now buf) ⌝ }
+    ensures { λ r. ⌜ Wrote 20 (decimal n) (now (buf .entry)) (now (buf .exit)) at r ⌝ }
+{
+    if n < 10 {
+        return put_byte(buf, at, 48 + n as u8);
+    }
+    if n < 100 {
+        return put_pair(buf, at, n as u32);
+    }
+    put_number(buf, at, n)
+}
