@@ -2,7 +2,7 @@
 -- Assumes nothing: these are definitions.
 use mathlib.Core.Path.{_≡_}
 use mathlib.Core.List.{List, [], _∷_, _++_}
-use Prim.Native.Nat.{ℕ, zero, suc, _+_, _/_, _%_, _≤_}
+use Prim.Native.Nat.{ℕ, zero, suc, _+_, _*_, _/_, _%_, _≤_}
 use lib.Dec.{ltb}
 use lib.ListN.{length}
 use lib.Seq.{sets}
@@ -26,6 +26,11 @@ four n = pair (n / 100) ++ pair (n % 100)
 
 abbrev pub eight : ℕ → List ℕ
 eight n = four (n / 10000) ++ four (n % 10000)
+
+-- bytes in one word, the first lowest
+abbrev pub packed : List ℕ → ℕ
+packed [] = 0
+packed (b ∷ bs) = b + packed bs * 256
 
 -- THE CONTRACT of all that writes: the text stands in the buffer from the place on, everything else is as it was, and the next
 -- place is just behind it. The last two follow from the first two: the buffer's length is kept, and the text has few bytes.

@@ -8,6 +8,7 @@ ghost use Rattle.print.specs.Lines.{line, change, linkText};
 ghost use Rattle.meaning.specs.declared.Answer.the-variants.{Tally, Went};
 use crate::number::put_byte;
 use crate::number::put_number;
+use crate::number::put_short;
 use crate::number::put_text;
 use meaning::Answer;
 use meaning::Fate;
@@ -39,7 +40,8 @@ fn put_link(buf: &mut [u8], at: usize, link: u64, after: u8) -> usize
         let next = put_byte(buf, at, b'-');
         return put_byte(buf, next, after);
     }
-    put_field(buf, at, link, after)
+    let next = put_short(buf, at, link);
+    put_byte(buf, next, after)
 }
 
 // A line with one number.

@@ -10,8 +10,8 @@ use Rattle.print.proofs.line.put_link.Statement.{statement}
 use Rattle.print.proofs.line.put_link.Tie as tie
 use Rattle.print.proofs.line.put_link.Reads as reads
 use Rattle.print.proofs.line.put_link.Lts as lts
-use Rattle.print.proofs.line.put_field.Reads as put-field-reads
 use Rattle.print.proofs.number.put_byte.Reads as put-byte-reads
+use Rattle.print.proofs.number.put_short.Reads as put-short-reads
 
 put-byte-requires : tie.Need-put-byte-requires
 put-byte-requires c κs = search needs
@@ -29,8 +29,11 @@ returns c =
     also (ap (λ (t : List ℕ). t ++ (s .args .after ∷ [])) (sym (no-link (s .args .link) (d .before .before .before .before .before .before .if1 .taken)))) (omega arith)
     (both (d .before .before .before .before .put-byte .ensures) (d .put-byte2 .ensures))
 
-put-field-requires : tie.Need-put-field-requires
-put-field-requires c κs = search needs
+put-short-requires : tie.Need-put-short-requires
+put-short-requires c κs = search needs
+
+put-byte-requires-3 : tie.Need-put-byte-requires-3
+put-byte-requires-3 c κs = search needs
 
 same-length-2 : tie.Need-same-length-2
 same-length-2 c = search needs
@@ -38,8 +41,9 @@ same-length-2 c = search needs
 returns-2 : tie.Need-returns-2
 returns-2 c =
     let d = c .before .before in
-    let s = d .before .before .before .before in
-    also (ap (λ (t : List ℕ). t ++ (s .args .after ∷ [])) (sym (some-link (s .args .link) (d .before .before .if1 .left)))) (omega arith) (d .put-field .ensures)
+    let s = d .before .before .before .before .before .before .before .before in
+    also (ap (λ (t : List ℕ). t ++ (s .args .after ∷ [])) (sym (some-link (s .args .link) (d .before .before .before .before .before .before .if1 .left)))) (omega arith)
+    (both (d .before .before .before .before .put-short .ensures) (d .put-byte3 .ensures))
 
 pub put-link-spec : {M : Type 1} → statement M
 put-link-spec =
@@ -49,6 +53,7 @@ put-link-spec =
     put-byte-requires-2
     same-length
     returns
-    put-field-requires
+    put-short-requires
+    put-byte-requires-3
     same-length-2
     returns-2)

@@ -1,25 +1,78 @@
 -- `print::number::put_four` meets its contract. Assumes nothing.
 use borrow.Author.Needs.{needs}
-use Rattle.print.proofs.Writes.{both}
+use native.Mathlib.Omega.{arith}
+use lib.ListN.{length-set}
+use Rattle.print.proofs.Writes.{also}
+use Rattle.print.proofs.Words.{four-bytes, four-stores}
 use Rattle.print.proofs.number.put_four.Statement.{statement}
 use Rattle.print.proofs.number.put_four.Tie as tie
 use Rattle.print.proofs.number.put_four.Reads as reads
 use Rattle.print.proofs.number.put_four.Lts as lts
-use Rattle.print.proofs.number.put_pair.Reads as put-pair-reads
+use Rattle.print.proofs.number.pack_four.Reads as pack-four-reads
 
-put-pair-requires : tie.Need-put-pair-requires
-put-pair-requires c κs = search needs
+pack-four-requires : tie.Need-pack-four-requires
+pack-four-requires c κs = search needs
 
-put-pair-requires-2 : tie.Need-put-pair-requires-2
-put-pair-requires-2 c κs = search needs
+cast-buf : tie.Need-cast-buf
+cast-buf c = search needs
+
+slice-write-buf : tie.Need-slice-write-buf
+slice-write-buf c = search needs
+
+cast-buf-2 : tie.Need-cast-buf-2
+cast-buf-2 c = search needs
+
+add-buf : tie.Need-add-buf
+add-buf c = search needs
+
+slice-write-buf-2 : tie.Need-slice-write-buf-2
+slice-write-buf-2 c = simp length-set (omega arith)
+
+cast-buf-3 : tie.Need-cast-buf-3
+cast-buf-3 c = search needs
+
+add-buf-2 : tie.Need-add-buf-2
+add-buf-2 c = search needs
+
+slice-write-buf-3 : tie.Need-slice-write-buf-3
+slice-write-buf-3 c = simp length-set (omega arith)
+
+cast-buf-4 : tie.Need-cast-buf-4
+cast-buf-4 c = search needs
+
+add-buf-3 : tie.Need-add-buf-3
+add-buf-3 c = search needs
+
+slice-write-buf-4 : tie.Need-slice-write-buf-4
+slice-write-buf-4 c = simp length-set (omega arith)
+
+add-result : tie.Need-add-result
+add-result c = search needs
 
 same-length : tie.Need-same-length
 same-length c = search needs
 
 returns : tie.Need-returns
 returns c =
-    let d = c .before .before in
-    both (d .before .before .before .before .put-pair .ensures) (d .put-pair2 .ensures)
+    let d = c .before .before .args in
+    also (four-bytes (d .n) (c .pack-four .result) (omega arith) (c .pack-four .ensures)) (omega arith) (four-stores (d .buf .now) (d .at) _ _ _ _)
 
 pub put-four-spec : {M : Type 1} → statement M
-put-four-spec = tie.close (tie.spec put-pair-requires put-pair-requires-2 same-length returns)
+put-four-spec =
+    tie.close
+    (tie.spec
+    pack-four-requires
+    cast-buf
+    slice-write-buf
+    cast-buf-2
+    add-buf
+    slice-write-buf-2
+    cast-buf-3
+    add-buf-2
+    slice-write-buf-3
+    cast-buf-4
+    add-buf-3
+    slice-write-buf-4
+    add-result
+    same-length
+    returns)

@@ -1,0 +1,72 @@
+-- `print::number::put_short` meets its contract. Assumes nothing.
+use borrow.Author.Needs.{needs}
+use mathlib.Core.Path.{sym}
+use native.Mathlib.Omega.{arith}
+use Rattle.print.proofs.Writes.{also}
+use Rattle.print.proofs.Digits.{one, two}
+use Rattle.print.proofs.number.put_short.Statement.{statement}
+use Rattle.print.proofs.number.put_short.Tie as tie
+use Rattle.print.proofs.number.put_short.Reads as reads
+use Rattle.print.proofs.number.put_short.Lts as lts
+use Rattle.print.proofs.number.put_byte.Reads as put-byte-reads
+use Rattle.print.proofs.number.put_number.Reads as put-number-reads
+use Rattle.print.proofs.number.put_pair.Reads as put-pair-reads
+
+cast-put-byte : tie.Need-cast-put-byte
+cast-put-byte c = search needs
+
+add-put-byte : tie.Need-add-put-byte
+add-put-byte c = search needs
+
+put-byte-requires : tie.Need-put-byte-requires
+put-byte-requires c κs = search needs
+
+same-length : tie.Need-same-length
+same-length c = search needs
+
+returns : tie.Need-returns
+returns c =
+    let d = c .before .before in
+    let n = d .before .before .before .before .args .n in
+    also (sym (one n (omega arith))) (omega arith) (d .put-byte .ensures)
+
+cast-put-pair : tie.Need-cast-put-pair
+cast-put-pair c = search needs
+
+put-pair-requires : tie.Need-put-pair-requires
+put-pair-requires c κs = search needs
+
+same-length-2 : tie.Need-same-length-2
+same-length-2 c = search needs
+
+returns-2 : tie.Need-returns-2
+returns-2 c =
+    let d = c .before .before in
+    let n = d .before .before .before .before .before .args .n in
+    also (sym (two n (omega arith) (omega arith))) (omega arith) (d .put-pair .ensures)
+
+put-number-requires : tie.Need-put-number-requires
+put-number-requires c κs = search needs
+
+same-length-3 : tie.Need-same-length-3
+same-length-3 c = search needs
+
+returns-3 : tie.Need-returns-3
+returns-3 c = search needs
+
+pub put-short-spec : {M : Type 1} → statement M
+put-short-spec =
+    tie.close
+    (tie.spec
+    cast-put-byte
+    add-put-byte
+    put-byte-requires
+    same-length
+    returns
+    cast-put-pair
+    put-pair-requires
+    same-length-2
+    returns-2
+    put-number-requires
+    same-length-3
+    returns-3)
