@@ -1,6 +1,7 @@
 // The room that is lent for the change list, both sides: with 2,559 words every record and the empty stream are refused by 0, with 2,560 none is.
-// For each kind from 0 to 10, in a stream of 11 bytes, it prints the kind and the number of the refusal at which a run stops, or 14 for "end":
-// an insert has 11 bytes, so that its run comes to the end; behind the others stands a kind 0.
+// First it prints the number of the refusal at which a run over the empty stream stops, or 14 for "end", then that of an insert cut off. For each
+// kind from 0 to 10, in a stream of 11 bytes, it prints the kind and that number: an insert has 11 bytes, so that its run comes to the end;
+// behind the others stands a kind 0.
 use meaning::Answer;
 
 // Prints a number and the byte after it.
@@ -61,13 +62,18 @@ fn say_kinds(list: &mut [u64]) {
 
 fn main() {
     let empty = [0u8; 0];
+    let cut_off = [4u8; 1];
     let mut short = [7u64; 2559];
     let none = stop_of(&empty, &mut short);
     say(none, b'\n');
+    let before_two = stop_of(&cut_off, &mut short);
+    say(before_two, b'\n');
     say_kinds(&mut short);
     let mut full = [7u64; 2560];
     let end = stop_of(&empty, &mut full);
     say(end, b'\n');
+    let two = stop_of(&cut_off, &mut full);
+    say(two, b'\n');
     say_kinds(&mut full);
     say(short[0], b' ');
     say(full[2559], b'\n');
