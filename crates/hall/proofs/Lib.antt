@@ -4,7 +4,5 @@ mod Moves
 mod Splits
 mod Rules
 mod Sweeping
-mod Clears
-mod Running
 mod Updated
 mod Others

@@ -4,11 +4,8 @@ mod atom;
 mod label;
 mod link;
 mod rule;
-mod run;
 mod step;
 mod update;
 mod walk;
 
-pub use run::clear_box;
-pub use run::run_stream;
 pub use step::take_record;

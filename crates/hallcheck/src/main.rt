@@ -123,7 +123,7 @@ fn check(bytes: &[u8]) {
     let mut owner = [0u16; 8192];
     let mut list = [0u64; 2560];
     let mut out = io::large_buffer();
-    let fresh = hall::clear_box(
+    let fresh = stream::clear_box(
         &mut link,
         &mut rule,
         &mut cut,

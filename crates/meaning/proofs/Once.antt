@@ -64,11 +64,11 @@ outcome-once x y e =
 pub take-record-once : (m : State) (list bytes : List ℕ) (x y : Outcome) → leaves x ≡ leftOf m list bytes → leaves y ≡ leftOf m list bytes → x ≡ y
 take-record-once m list bytes x y p q = outcome-once x y (p ∙ sym q)
 
--- `hall::run_stream` on the lent list and the bytes
+-- `stream::run_stream` on the lent list and the bytes
 pub run-stream-once : (list bytes : List ℕ) (x y : Outcome) → leaves x ≡ ranOf list bytes → leaves y ≡ ranOf list bytes → x ≡ y
 run-stream-once list bytes x y p q = outcome-once x y (p ∙ sym q)
 
--- what `hall::clear_box` ensures
+-- what `stream::clear_box` ensures
 pub record Cleared (x : Lent) : Type 0 where
   pub state-is : state x ≡ fresh
   pub labels : x .label ≡ labelsOf fresh

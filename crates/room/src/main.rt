@@ -28,7 +28,7 @@ fn stop_of(stream: &[u8], list: &mut [u64]) -> u64 {
     let mut number = [0u16; 512];
     let mut label = [0u64; 512];
     let mut owner = [0u16; 8192];
-    let ran = hall::run_stream(
+    let ran = stream::run_stream(
         stream,
         &mut link,
         &mut rule,

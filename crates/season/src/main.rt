@@ -129,7 +129,7 @@ fn main() {
     let mut label = [0u64; 512];
     let mut owner = [0u16; 8192];
     let mut list = [0u64; 2560];
-    let ran = hall::run_stream(
+    let ran = stream::run_stream(
         &stream,
         &mut link,
         &mut rule,

@@ -1,13 +1,13 @@
--- `hall::run::run_stream` meets its contract: after each record, what is left to run is the run. Assumes nothing.
+-- `stream::run_stream` meets its contract: after each record, what is left to run is the run. Assumes nothing.
 use borrow.Author.Needs.{needs}
 use mathlib.Core.Path.{_≡_, refl, sym, ap, _∙_}
 use Prim.Native.Nat.{_-_}
 use native.Mathlib.Omega.{arith}
 use lib.ListN.{length}
 use Rattle.meaning.specs.Box.{stateOf}
-use Rattle.hall.proofs.Running.{Running, whole-rest, running-start, running-stops, running-goes}
-use Rattle.hall.proofs.run.run_stream.Statement.{statement}
-use Rattle.hall.proofs.run.run_stream.Tie as tie
+use Rattle.stream.proofs.Running.{Running, whole-rest, running-start, running-stops, running-goes}
+use Rattle.stream.proofs.run_stream.Statement.{statement}
+use Rattle.stream.proofs.run_stream.Tie as tie
 
 abbrev Inv-loop : tie.InvT-loop
 Inv-loop bytes link₀ rule₀ cut₀ number₀ label₀ owner₀ list₀ h₀ at₀ past₀ link rule cut number label owner list h at past =

@@ -1,11 +1,11 @@
--- `hall::run::clear_words` meets its contract: the first i entries are 0. Assumes nothing.
+-- `stream::clear_words` meets its contract: the first i entries are 0. Assumes nothing.
 use borrow.Author.Needs.{needs}
 use Prim.Native.Nat.{_-_, _≤_, _<_}
 use native.Mathlib.Omega.{arith}
 use lib.ListN.{length, length-set}
-use Rattle.hall.proofs.Clears.{Cleared, cleared-none, cleared-more, cleared-all}
-use Rattle.hall.proofs.run.clear_words.Statement.{statement}
-use Rattle.hall.proofs.run.clear_words.Tie as tie
+use Rattle.stream.proofs.Clears.{Cleared, cleared-none, cleared-more, cleared-all}
+use Rattle.stream.proofs.clear_words.Statement.{statement}
+use Rattle.stream.proofs.clear_words.Tie as tie
 
 abbrev Inv-loop : tie.InvT-loop
 Inv-loop l₀ i₀ l i = Cleared l₀ l i

@@ -1,11 +1,11 @@
--- `hall::run::clear_box` meets its contract: tables of zeros are the fresh ones. Assumes nothing.
+-- `stream::clear_box` meets its contract: tables of zeros are the fresh ones. Assumes nothing.
 use borrow.Author.Needs.{needs}
 use mathlib.Core.Path.{sym, _∙_}
 use Rattle.meaning.proofs.Ends.{fresh-labels}
 use Rattle.meaning.proofs.Labelled.{fresh-owners}
-use Rattle.hall.proofs.Clears.{fresh-by, sized}
-use Rattle.hall.proofs.run.clear_box.Statement.{statement}
-use Rattle.hall.proofs.run.clear_box.Tie as tie
+use Rattle.stream.proofs.Clears.{fresh-by, sized}
+use Rattle.stream.proofs.clear_box.Statement.{statement}
+use Rattle.stream.proofs.clear_box.Tie as tie
 
 clear-halves-requires : tie.Need-clear-halves-requires
 clear-halves-requires c κs = search needs

@@ -77,7 +77,7 @@ pub fn run_stream(
     let mut past: usize = 0;
     loop {
         let rest = &bytes[at..];
-        let s = crate::step::take_record(rest, h, link, rule, cut, number, label, owner, list);
+        let s = hall::take_record(rest, h, link, rule, cut, number, label, owner, list);
         let hall = s.hall;
         if s.passed == 0 {
             let stopped = s.answer;
