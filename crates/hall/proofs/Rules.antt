@@ -2,7 +2,7 @@
 -- Assumes nothing.
 use mathlib.Core.Path.{_≡_, refl, sym, ap, ap₂, _∙_, subst}
 use mathlib.Core.Logic.{_⊎_, inl, inr, ⊎-elim}
-use mathlib.Core.Bool.{Bool, true, false, _&&_, true≢false}
+use mathlib.Core.Bool.{Bool, true, false, _&&_, _||_, true≢false}
 use mathlib.Core.List.{List}
 use mathlib.Core.Option.{none, some}
 use Prim.Native.Nat.{ℕ, zero, suc, _+_, _/_, _^_, _≤_, _<_}
@@ -11,7 +11,7 @@ use native.Mathlib.Decide.{ℕ-discrete}
 use native.Mathlib.Numerals.{add-one}
 use native.Mathlib.Omega.{arith}
 use lib.Dec.{leb, ltb, eqb}
-use lib.ListN.{length, getD, set}
+use lib.ListN.{length, length-set, getD, set}
 use lib.Seq.{getD-set-same, getD-set-other}
 use borrow.Author.Count.{below-more}
 use borrow.Author.Tests.{eq-eqb, ne-eqb, lt-ltb, le-ltb, le-leb, lt-leb, leb-true, ltb-true}
@@ -28,8 +28,9 @@ use Rattle.meaning.proofs.Checks.{rule-clashes, cuts-many, passes}
 use Rattle.meaning.proofs.Ranks.{Wins, keep-out, take-first, take-higher, keep-lower}
 use Rattle.meaning.proofs.Members.{and-both}
 use Rattle.meaning.proofs.Means.{wins}
-use Rattle.meaning.proofs.Sound.{Sound}
-use Rattle.hall.specs.Gathered.{standing, tying, bestIn, Gathers}
+use Rattle.meaning.proofs.Idle.{any-off}
+use Rattle.meaning.proofs.Sound.{Sound, any-false}
+use Rattle.hall.specs.Gathered.{standing, tying, bestIn, Marks, Gathers}
 
 -- ---- standing, covering, overlapping and tying, by the tests on the way
 
@@ -49,6 +50,10 @@ module _ (link : List ℕ) (v x : ℕ) where
   pub stands-there : (x ≡ 0 → ⊥) → (s : ℕ) → s ≡ getD link (linkOf x) 0 / 1024 → eqb s v ≡ standing link v x
   unfolding standing live
   stands-there n s e = rw (ne-eqb x 0 n, e)
+
+  pub stands-marked : {here : List Bool} → Marks link v here → (live x && getD here (linkOf x) false) ≡ standing link v x
+  unfolding standing linkOf
+  stands-marked m = ap (λ (b : Bool). live x && b) (m .right (linkOf x) (omega arith))
 
 -- the ends are those that code has
 module _ (x a l u : ℕ) (isLow : l ≡ lower x) (isHigh : u ≡ upper x) where
@@ -90,6 +95,16 @@ module _ (link : List ℕ) (v w x : ℕ) where
   pub ties-if : (a b : ℕ) → a ≡ rank x → b ≡ rank w → a ≡ b → standing link v x ≡ true → overlap x w ≡ tying link v w x
   ties-if a b e f d s = rw (tying-is, s, eq-eqb (rank x) (rank w) (sym e ∙ d ∙ f))
 
+pub any-next : (P : ℕ → Bool) (i : ℕ) (a b : Bool) → a ≡ anyBelow i P → b ≡ P i → (a || b) ≡ anyBelow (i + 1) P
+unfolding anyBelow
+any-next P i a b e f = rw (add-one, e, f)
+
+-- where no word has the rank of w, none ties with it
+pub ties-nowhere : (link rule : List ℕ) (v w k : ℕ) → k ≡ rank w → anyBelow 256 (λ i. eqb (rank (getD rule i 0)) k) ≡ false
+    → false ≡ anyBelow 256 (λ i. tying link v w (getD rule i 0))
+ties-nowhere link rule v w k e f =
+    sym (any-off _ 256 (λ i h. sym (ties-apart link v w (getD rule i 0) _ k refl e (λ d. true≢false (sym (eq-eqb _ _ d) ∙ any-false _ 256 f i h)))))
+
 -- ---- the last checks of an insert, by the values that code has: the node v, the word w, and whether a rule ties
 
 module _ (m : State) (r l p n t : ℕ) (few : m .links ≤ 64) (hp : p < 2 ^ 32) (ht : t < 2 ^ 16)
@@ -116,6 +131,25 @@ module _ (m : State) (r l p n t : ℕ) (few : m .links ≤ 64) (hp : p < 2 ^ 32)
     insert-passes h = sym (passes m r l p n t low free known short whole (sym clash ∙ apart) (omega (arith, more-cuts)))
 
 -- ---- gathering
+
+-- `Marks` for the links below l
+pub record Marking (link : List ℕ) (v : ℕ) (here : List Bool) (l : ℕ) : Type 0 where
+  pub whole : length here ≡ 64
+  pub right : (k : ℕ) → k < l → getD here k false ≡ eqb (getD link k 0 / 1024) v
+
+module _ {link : List ℕ} {v : ℕ} {here : List Bool} where
+  pub marked-none : length here ≡ 64 → Marking link v here 0
+  marked-none e = record { whole = e; right = λ k h. absurd (not-suc-le-zero h) }
+
+  pub marked-more : {l : ℕ} → Marking link v here l → l < 64 → (b : Bool) → b ≡ eqb (getD link l 0 / 1024) v → Marking link v (set here l b) (l + 1)
+  marked-more {l} m h b e = record {
+    whole = simp length-set (m .whole);
+    right = below-more (λ k. getD (set here l b) k false ≡ eqb (getD link k 0 / 1024) v) l
+        (λ k g. getD-set-other here l k b false (λ d. omega arith) ∙ m .right k g) (getD-set-same here l b false (omega (arith, m .whole)) ∙ e);
+  }
+
+  pub marked-all : Marking link v here 64 → Marks link v here
+  marked-all m = record { right = m .right }
 
 -- where rule k stands at node v and overlaps with w, it is among the gathered
 abbrev IsAmong : (link rule : List ℕ) (v w : ℕ) (among : List ℕ) (count k : ℕ) → Type 0

@@ -1,7 +1,7 @@
 // Rules: a rule's word and its parts, the tie check, and the winner among gathered rules.
 use meaning::Rule;
 ghost use mathlib.Core.Path.{_≡_};
-ghost use mathlib.Core.Bool.{_&&_};
+ghost use mathlib.Core.Bool.{false, _&&_};
 ghost use mathlib.Core.List.{List};
 ghost use Prim.Native.Nat.{ℕ, _+_, _-_, _*_, _/_, _%_, _^_, _<_, _≤_};
 ghost use lib.Dec.{eqb};
@@ -9,7 +9,7 @@ ghost use lib.ListN.{length, getD};
 ghost use Rattle.meaning.specs.Search.{anyBelow};
 ghost use Rattle.meaning.specs.Rule.{ruleWord, live, linkOf, lengthOf, rank as rankOf, lower, upper, covers, overlap};
 ghost use Rattle.meaning.specs.Winner.{better};
-ghost use Rattle.hall.specs.Gathered.{bestIn, Gathers, standing, tying};
+ghost use Rattle.hall.specs.Gathered.{bestIn, Gathers, Marks, standing, tying};
 
 // The word of a rule.
 pub fn pack(r: Rule) -> u64
@@ -91,10 +91,26 @@ fn ties_with(link: &[u16; 64], v: usize, w: u64, x: u64) -> bool
     false
 }
 
+// Whether some word has this rank. It goes through all of them without a way out, so that several are asked at once.
+fn has_rank(rule: &[u64; 256], rank: u64) -> bool
+    ensures { λ r. ⌜ r ≡ anyBelow 256 (λ i. eqb (rankOf (getD (now (rule .entry)) i 0)) rank) ⌝ }
+{
+    let mut any = false;
+    let mut i: usize = 0;
+    while i < 256 {
+        any |= rank_of(rule[i]) == rank;
+        i += 1;
+    }
+    any
+}
+
 // Whether a live rule at node v overlaps with w and has the same rank.
 pub fn ties(link: &[u16; 64], rule: &[u64; 256], v: usize, w: u64) -> bool
     ensures { λ r. ⌜ r ≡ anyBelow 256 (λ i. tying (now (link .entry)) v w (getD (now (rule .entry)) i 0)) ⌝ }
 {
+    if !has_rank(rule, rank_of(w)) {
+        return false;
+    }
     let mut i: usize = 0;
     while i < 256 {
         if ties_with(link, v, w, rule[i]) {
@@ -103,6 +119,28 @@ pub fn ties(link: &[u16; 64], rule: &[u64; 256], v: usize, w: u64) -> bool
         i += 1;
     }
     false
+}
+
+// Marks in `here` the links whose source is node v.
+fn links_at(link: &[u16; 64], v: usize, here: &mut [bool; 64])
+    ensures { λ r. ⌜ Marks (now (link .entry)) v (now (here .exit)) ⌝ }
+{
+    let s: &mut [bool] = here;
+    let mut l: usize = 0;
+    while l < 64 {
+        s[l] = crate::link::source_of(link[l]) == v;
+        l += 1;
+    }
+}
+
+// Whether x is a live rule on a link that is marked.
+fn stands_on(here: &[bool; 64], x: u64) -> bool
+    ensures { λ r. ⌜ r ≡ (live x && getD (now (here .entry)) (linkOf x) false) ⌝ }
+{
+    if x == 0 {
+        return false;
+    }
+    here[link_of(x)]
 }
 
 // Gathers the numbers of the live rules at node v that overlap with w, and returns how many there are.
@@ -115,12 +153,14 @@ pub fn gather(
 ) -> usize
     ensures { λ r. ⌜ Gathers (now (link .entry)) (now (rule .entry)) v w (now (among .exit)) r ⌝ }
 {
+    let mut here = [false; 64];
+    links_at(link, v, &mut here);
     let numbers: &mut [u16] = among;
     let mut count: usize = 0;
     let mut i: usize = 0;
     while i < 256 {
         let x = rule[i];
-        if stands_at(link, v, x) {
+        if stands_on(&here, x) {
             if overlaps(x, w) {
                 numbers[count] = i as u16;
                 count += 1;
