@@ -1,11 +1,9 @@
 // Rules: a rule's word and its parts, the tie check, and the winner among gathered rules.
 use meaning::Rule;
 ghost use mathlib.Core.Path.{_≡_};
-ghost use mathlib.Core.Bool.{false, _&&_};
-ghost use mathlib.Core.List.{List};
-ghost use Prim.Native.Nat.{ℕ, _+_, _-_, _*_, _/_, _%_, _^_, _<_, _≤_};
-ghost use lib.Dec.{eqb};
-ghost use lib.ListN.{length, getD};
+ghost use mathlib.Core.Bool.{true, false, _&&_};
+ghost use Prim.Native.Nat.{ℕ, _^_, _<_, _≤_};
+ghost use lib.ListN.{getD};
 ghost use Rattle.meaning.specs.Search.{anyBelow};
 ghost use Rattle.meaning.specs.Rule.{ruleWord, live, linkOf, lengthOf, rank as rankOf, lower, upper, covers, overlap};
 ghost use Rattle.meaning.specs.Winner.{better};
@@ -21,7 +19,8 @@ pub fn pack(r: Rule) -> u64
     head + r.link as u64 * 4294967296 + r.prefix as u64
 }
 
-// The parts of a rule's word.
+// The parts of a rule's word: the inverse of `pack`, by the laws link-of, lower-of, length-of and rank-of of meaning's proofs/Words.
+// Kept to show this: the box asks a word for one part at a time.
 pub fn unpack(w: u64) -> Rule
     ensures { λ r. ⌜ (r .link ≡ linkOf w) × (r .prefix ≡ lower w) × (r .length ≡ lengthOf w) × (r .priority ≡ rankOf w) ⌝ }
 {
@@ -91,24 +90,32 @@ fn ties_with(link: &[u16; 64], v: usize, w: u64, x: u64) -> bool
     false
 }
 
-// Whether some word has this rank. It goes through all of them without a way out, so that several are asked at once.
-fn has_rank(rule: &[u64; 256], rank: u64) -> bool
-    ensures { λ r. ⌜ r ≡ anyBelow 256 (λ i. eqb (rankOf (getD (now (rule .entry)) i 0)) rank) ⌝ }
+// 0 where x and w have the same rank, else 2^44 at least.
+fn rank_gap(x: u64, w: u64) -> u64
+    ensures { λ r. ⌜ (rankOf x ≡ rankOf w → r ≡ 0) × (r < 2 ^ 60) ⌝ }
 {
-    let mut any = false;
+    (x ^ w) % 1152921504606846976 / 17592186044416 * 17592186044416
+}
+
+// Whether the rank of w is surely no word's: the highest bit of `all` stays only where each word's rank is another.
+// It has no way out before the last word, so that the compiler can take several at once.
+fn lacks_rank(rule: &[u64; 256], w: u64) -> bool
+    ensures { λ r. ⌜ (r ≡ true → (i : ℕ) → i < 256 → rankOf (getD (now (rule .entry)) i 0) ≡ rankOf w → ⊥) ⌝ }
+{
+    let mut all: u64 = 18446744073709551615;
     let mut i: usize = 0;
     while i < 256 {
-        any |= rank_of(rule[i]) == rank;
+        all &= rank_gap(rule[i], w) + 9223354444668731392;
         i += 1;
     }
-    any
+    9223372036854775808 <= all
 }
 
 // Whether a live rule at node v overlaps with w and has the same rank.
 pub fn ties(link: &[u16; 64], rule: &[u64; 256], v: usize, w: u64) -> bool
     ensures { λ r. ⌜ r ≡ anyBelow 256 (λ i. tying (now (link .entry)) v w (getD (now (rule .entry)) i 0)) ⌝ }
 {
-    if !has_rank(rule, rank_of(w)) {
+    if lacks_rank(rule, w) {
         return false;
     }
     let mut i: usize = 0;
@@ -137,10 +144,10 @@ fn links_at(link: &[u16; 64], v: usize, here: &mut [bool; 64])
 fn stands_on(here: &[bool; 64], x: u64) -> bool
     ensures { λ r. ⌜ r ≡ (live x && getD (now (here .entry)) (linkOf x) false) ⌝ }
 {
-    if x == 0 {
-        return false;
+    if here[link_of(x)] {
+        return x != 0;
     }
-    here[link_of(x)]
+    false
 }
 
 // Gathers the numbers of the live rules at node v that overlap with w, and returns how many there are.

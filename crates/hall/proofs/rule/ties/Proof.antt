@@ -6,7 +6,6 @@ use native.Mathlib.Omega.{arith}
 use lib.ListN.{getD}
 use denote.Ref.{now}
 use borrow.Author.Needs.{needs}
-use borrow.Author.Tests.{not-true}
 use Rattle.meaning.specs.Search.{anyBelow}
 use Rattle.meaning.proofs.Members.{any-true, any-none, any-more}
 use Rattle.hall.specs.Gathered.{tying}
@@ -20,16 +19,11 @@ Inv-loop link rule v w i₀ i = (i ≤ 256) × (anyBelow i (λ k. tying link v w
 abbrev μ-loop : tie.MeasureT-loop
 μ-loop link rule v w i₀ i = 256 - i
 
-rank-of-requires : tie.Need-rank-of-requires Inv-loop μ-loop
-rank-of-requires c κs = search needs
-
-has-rank-requires : tie.Need-has-rank-requires Inv-loop μ-loop
-has-rank-requires c κs = search needs
+lacks-rank-requires : tie.Need-lacks-rank-requires Inv-loop μ-loop
+lacks-rank-requires c κs = search needs
 
 returns : tie.Need-returns Inv-loop μ-loop
-returns c =
-    let r = c .before .before in
-    ties-nowhere _ (now (r .before .args .rule)) _ _ _ (r .rank-of .ensures .0) (sym (c .before .has-rank .ensures) ∙ not-true _ (c .if1 .taken))
+returns c = ties-nowhere _ (now (c .before .before .args .rule)) _ _ (c .before .lacks-rank .ensures (c .if1 .taken))
 
 loop-holds : tie.Need-loop-holds Inv-loop μ-loop
 loop-holds c = (search needs, any-none _)
@@ -68,8 +62,7 @@ ties-spec =
     (tie.spec
     Inv-loop
     μ-loop
-    rank-of-requires
-    has-rank-requires
+    lacks-rank-requires
     returns
     loop-holds
     mul-ties-with
