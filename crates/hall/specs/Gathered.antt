@@ -1,4 +1,4 @@
--- Rules by their words: those that stand at a node, those that tie, and the best among gathered ones. Assumes nothing: these are definitions.
+-- Rules by their words: those that stand at a node, those that tie, a node's links, and the best among gathered ones. Assumes nothing: these are definitions.
 use mathlib.Core.Path.{_≡_}
 use mathlib.Core.Bool.{Bool, true, false, _&&_}
 use mathlib.Core.List.{List}

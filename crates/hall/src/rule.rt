@@ -90,7 +90,7 @@ fn ties_with(link: &[u16; 64], v: usize, w: u64, x: u64) -> bool
     false
 }
 
-// 0 where x and w have the same rank, else 2^44 at least.
+// 0 where x and w have the same rank, else 2^44 at least (that is for speed: no proof needs it).
 fn rank_gap(x: u64, w: u64) -> u64
     ensures { λ r. ⌜ (rankOf x ≡ rankOf w → r ≡ 0) × (r < 2 ^ 60) ⌝ }
 {
@@ -98,7 +98,7 @@ fn rank_gap(x: u64, w: u64) -> u64
 }
 
 // Whether the rank of w is surely no word's: the highest bit of `all` stays only where each word's rank is another.
-// It has no way out before the last word, so that the compiler can take several at once.
+// It has no way out before the last word, so that the compiler can take several at once. A number that is not live has the word 0, so rank 0.
 fn lacks_rank(rule: &[u64; 256], w: u64) -> bool
     ensures { λ r. ⌜ (r ≡ true → (i : ℕ) → i < 256 → rankOf (getD (now (rule .entry)) i 0) ≡ rankOf w → ⊥) ⌝ }
 {
