@@ -2,16 +2,17 @@
 -- Assumes nothing.
 use mathlib.Core.Path.{_≡_, refl, sym, ap, ap₂, _∙_, subst}
 use mathlib.Core.Logic.{_⊎_, inl, inr, ⊎-elim}
-use mathlib.Core.Bool.{Bool, true, false, _&&_, true≢false}
+use mathlib.Core.Bool.{Bool, true, false, _&&_, not, true≢false}
 use mathlib.Core.List.{List}
 use mathlib.Core.Option.{none, some}
-use Prim.Native.Nat.{ℕ, zero, suc, _+_, _/_, _^_, _≤_, _<_}
+use Prim.Native.Nat.{ℕ, zero, suc, _+_, _-_, _/_, _%_, _^_, _≤_, _<_}
 use native.Mathlib.Nat.{not-suc-le-zero}
 use native.Mathlib.Decide.{ℕ-discrete}
 use native.Mathlib.Numerals.{add-one}
 use native.Mathlib.Omega.{arith}
+use lib.Bits.{bitAnd, bitXor, and-le-l, and-le-r, xor-shr, xor-mod, xor-self}
 use lib.Dec.{leb, ltb, eqb}
-use lib.ListN.{length, getD, set}
+use lib.ListN.{length, length-set, getD, set}
 use lib.Seq.{getD-set-same, getD-set-other}
 use borrow.Author.Count.{below-more}
 use borrow.Author.Tests.{eq-eqb, ne-eqb, lt-ltb, le-ltb, le-leb, lt-leb, leb-true, ltb-true}
@@ -28,8 +29,9 @@ use Rattle.meaning.proofs.Checks.{rule-clashes, cuts-many, passes}
 use Rattle.meaning.proofs.Ranks.{Wins, keep-out, take-first, take-higher, keep-lower}
 use Rattle.meaning.proofs.Members.{and-both}
 use Rattle.meaning.proofs.Means.{wins}
+use Rattle.meaning.proofs.Idle.{any-off}
 use Rattle.meaning.proofs.Sound.{Sound}
-use Rattle.hall.specs.Gathered.{standing, tying, bestIn, Gathers}
+use Rattle.hall.specs.Gathered.{standing, tying, bestIn, Marks, Gathers}
 
 -- ---- standing, covering, overlapping and tying, by the tests on the way
 
@@ -41,6 +43,18 @@ and-off : (a : Bool) → (a && false) ≡ false
 and-off true = refl
 and-off false = refl
 
+and-on : (a : Bool) → (a && true) ≡ a
+and-on true = refl
+and-on false = refl
+
+module _ (x l : ℕ) (here : List Bool) (isLink : l ≡ linkOf x) where
+  pub marked-live : getD here l false ≡ true → not (eqb x 0) ≡ (live x && getD here (linkOf x) false)
+  unfolding live
+  marked-live e = rw (sym isLink, e, and-on)
+
+  pub unmarked : getD here l false ≡ false → false ≡ (live x && getD here (linkOf x) false)
+  unmarked e = rw (sym isLink, e, and-off)
+
 module _ (link : List ℕ) (v x : ℕ) where
   pub not-standing : x ≡ 0 → false ≡ standing link v x
   unfolding standing live
@@ -49,6 +63,10 @@ module _ (link : List ℕ) (v x : ℕ) where
   pub stands-there : (x ≡ 0 → ⊥) → (s : ℕ) → s ≡ getD link (linkOf x) 0 / 1024 → eqb s v ≡ standing link v x
   unfolding standing live
   stands-there n s e = rw (ne-eqb x 0 n, e)
+
+  pub stands-marked : {here : List Bool} → Marks link v here → (live x && getD here (linkOf x) false) ≡ standing link v x
+  unfolding standing linkOf
+  stands-marked m = ap (λ (b : Bool). live x && b) (m .right (linkOf x) (omega arith))
 
 -- the ends are those that code has
 module _ (x a l u : ℕ) (isLow : l ≡ lower x) (isHigh : u ≡ upper x) where
@@ -90,6 +108,36 @@ module _ (link : List ℕ) (v w x : ℕ) where
   pub ties-if : (a b : ℕ) → a ≡ rank x → b ≡ rank w → a ≡ b → standing link v x ≡ true → overlap x w ≡ tying link v w x
   ties-if a b e f d s = rw (tying-is, s, eq-eqb (rank x) (rank w) (sym e ∙ d ∙ f))
 
+-- ---- ranks that differ, by the highest bit of a word
+
+pub same-rank : (x w : ℕ) → rank x ≡ rank w → bitXor x w / 2 ^ 44 % 2 ^ 16 ≡ 0
+unfolding rank
+same-rank x w e =
+    ap (λ (b : ℕ). b % 2 ^ 16) (xor-shr x w 44)
+    ∙ xor-mod (x / 2 ^ 44) (w / 2 ^ 44) 16
+    ∙ ap (λ (b : ℕ). bitXor b (w / 2 ^ 44 % 2 ^ 16)) e
+    ∙ xor-self (w / 2 ^ 44 % 2 ^ 16)
+
+-- where the highest bit of `all` is set, the ranks of the words below i differ from that of w
+pub record Lacks (rule : List ℕ) (w all i : ℕ) : Type 0 where
+  pub other : 2 ^ 63 ≤ all → (k : ℕ) → k < i → rank (getD rule k 0) ≡ rank w → ⊥
+
+module _ {rule : List ℕ} {w all : ℕ} where
+  pub lacks-none : Lacks rule w all 0
+  lacks-none = record { other = λ h k l. absurd (not-suc-le-zero l) }
+
+  pub lacks-more : {i gap : ℕ} → Lacks rule w all i → (rank (getD rule i 0) ≡ rank w → gap ≡ 0) → Lacks rule w (bitAnd all (gap + (2 ^ 63 - 2 ^ 44))) (i + 1)
+  lacks-more {i} {gap} s f = record {
+    other = λ h. below-more (λ k. rank (getD rule k 0) ≡ rank w → ⊥) i
+        (s .other (omega (arith, h, and-le-l all (gap + (2 ^ 63 - 2 ^ 44)))))
+        (λ e. omega (arith, h, f e, and-le-r all (gap + (2 ^ 63 - 2 ^ 44))));
+  }
+
+-- where no word has the rank of w, none ties with it
+pub ties-nowhere : (link rule : List ℕ) (v w : ℕ) → ((i : ℕ) → i < 256 → rank (getD rule i 0) ≡ rank w → ⊥)
+    → false ≡ anyBelow 256 (λ i. tying link v w (getD rule i 0))
+ties-nowhere link rule v w f = sym (any-off _ 256 (λ i h. sym (ties-apart link v w (getD rule i 0) _ _ refl refl (f i h))))
+
 -- ---- the last checks of an insert, by the values that code has: the node v, the word w, and whether a rule ties
 
 module _ (m : State) (r l p n t : ℕ) (few : m .links ≤ 64) (hp : p < 2 ^ 32) (ht : t < 2 ^ 16)
@@ -116,6 +164,25 @@ module _ (m : State) (r l p n t : ℕ) (few : m .links ≤ 64) (hp : p < 2 ^ 32)
     insert-passes h = sym (passes m r l p n t low free known short whole (sym clash ∙ apart) (omega (arith, more-cuts)))
 
 -- ---- gathering
+
+-- `Marks` for the links below l
+pub record Marking (link : List ℕ) (v : ℕ) (here : List Bool) (l : ℕ) : Type 0 where
+  pub whole : length here ≡ 64
+  pub right : (k : ℕ) → k < l → getD here k false ≡ eqb (getD link k 0 / 1024) v
+
+module _ {link : List ℕ} {v : ℕ} {here : List Bool} where
+  pub marked-none : length here ≡ 64 → Marking link v here 0
+  marked-none e = record { whole = e; right = λ k h. absurd (not-suc-le-zero h) }
+
+  pub marked-more : {l : ℕ} → Marking link v here l → l < 64 → (b : Bool) → b ≡ eqb (getD link l 0 / 1024) v → Marking link v (set here l b) (l + 1)
+  marked-more {l} m h b e = record {
+    whole = simp length-set (m .whole);
+    right = below-more (λ k. getD (set here l b) k false ≡ eqb (getD link k 0 / 1024) v) l
+        (λ k g. getD-set-other here l k b false (λ d. omega arith) ∙ m .right k g) (getD-set-same here l b false (omega (arith, m .whole)) ∙ e);
+  }
+
+  pub marked-all : Marking link v here 64 → Marks link v here
+  marked-all m = record { right = m .right }
 
 -- where rule k stands at node v and overlaps with w, it is among the gathered
 abbrev IsAmong : (link rule : List ℕ) (v w : ℕ) (among : List ℕ) (count k : ℕ) → Type 0

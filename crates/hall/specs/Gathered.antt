@@ -1,6 +1,6 @@
--- Rules by their words: those that stand at a node, those that tie, and the best among gathered ones. Assumes nothing: these are definitions.
+-- Rules by their words: those that stand at a node, those that tie, a node's links, and the best among gathered ones. Assumes nothing: these are definitions.
 use mathlib.Core.Path.{_≡_}
-use mathlib.Core.Bool.{Bool, true, _&&_}
+use mathlib.Core.Bool.{Bool, true, false, _&&_}
 use mathlib.Core.List.{List}
 use Prim.Native.Nat.{ℕ, zero, suc, _/_, _<_, _≤_}
 use lib.Dec.{eqb}
@@ -15,6 +15,10 @@ standing link v x = live x && eqb (getD link (linkOf x) 0 / 1024) v
 -- the word x is of a live rule at node v that overlaps with w and has the same rank
 unfoldable pub tying : List ℕ → ℕ → ℕ → ℕ → Bool
 tying link v w x = live x && (eqb (getD link (linkOf x) 0 / 1024) v && (eqb (rank x) (rank w) && overlap x w))
+
+-- the links that `here` marks are those whose source is node v
+pub record Marks (link : List ℕ) (v : ℕ) (here : List Bool) : Type 0 where
+  pub right : (l : ℕ) → l < 64 → getD here l false ≡ eqb (getD link l 0 / 1024) v
 
 -- the numbers in `among`, count of them, are those of the live rules at node v that overlap with w
 pub record Gathers (link rule : List ℕ) (v w : ℕ) (among : List ℕ) (count : ℕ) : Type 0 where

@@ -1,10 +1,5 @@
 // Labels: 512 words, link l's at 8 l to 8 l + 7, and atom k the bit k % 64 of the word k / 64 of these.
-ghost use mathlib.Core.Path.{_≡_};
-ghost use mathlib.Core.Bool.{_||_, _&&_, not};
-ghost use Prim.Native.Nat.{ℕ, _<_, _≤_};
-ghost use lib.Dec.{eqb};
-ghost use Rattle.meaning.specs.Search.{pick};
-ghost use Rattle.meaning.specs.Labels.{on};
+ghost use Prim.Native.Nat.{_<_, _≤_};
 ghost use Rattle.meaning.proofs.Owners.{Words};
 ghost use Rattle.hall.specs.Bits.{Put, TakenOff, Moved};
 
@@ -14,15 +9,6 @@ pub fn known(label: &[u64; 512])
 {
     let s: &[u64] = label;
     let w = s[0];
-}
-
-// Whether an atom is on a link.
-pub fn has(label: &[u64; 512], link: usize, atom: usize) -> bool
-    requires { ⌜ (link < 64) × (atom < 512) ⌝ }
-    ensures { λ r. ⌜ r ≡ on (now (label .entry)) link atom ⌝ }
-{
-    let w = label[8 * link + atom / 64];
-    (w >> (atom % 64)) % 2 == 1
 }
 
 // Puts an atom on a link.

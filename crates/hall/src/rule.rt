@@ -1,15 +1,13 @@
 // Rules: a rule's word and its parts, the tie check, and the winner among gathered rules.
 use meaning::Rule;
 ghost use mathlib.Core.Path.{_≡_};
-ghost use mathlib.Core.Bool.{_&&_};
-ghost use mathlib.Core.List.{List};
-ghost use Prim.Native.Nat.{ℕ, _+_, _-_, _*_, _/_, _%_, _^_, _<_, _≤_};
-ghost use lib.Dec.{eqb};
-ghost use lib.ListN.{length, getD};
+ghost use mathlib.Core.Bool.{true, false, _&&_};
+ghost use Prim.Native.Nat.{ℕ, _^_, _<_, _≤_};
+ghost use lib.ListN.{getD};
 ghost use Rattle.meaning.specs.Search.{anyBelow};
 ghost use Rattle.meaning.specs.Rule.{ruleWord, live, linkOf, lengthOf, rank as rankOf, lower, upper, covers, overlap};
 ghost use Rattle.meaning.specs.Winner.{better};
-ghost use Rattle.hall.specs.Gathered.{bestIn, Gathers, standing, tying};
+ghost use Rattle.hall.specs.Gathered.{bestIn, Gathers, Marks, standing, tying};
 
 // The word of a rule.
 pub fn pack(r: Rule) -> u64
@@ -21,7 +19,8 @@ pub fn pack(r: Rule) -> u64
     head + r.link as u64 * 4294967296 + r.prefix as u64
 }
 
-// The parts of a rule's word.
+// The parts of a rule's word: the inverse of `pack`, by the laws link-of, lower-of, length-of and rank-of of meaning's proofs/Words.
+// Kept to show this: the box asks a word for one part at a time.
 pub fn unpack(w: u64) -> Rule
     ensures { λ r. ⌜ (r .link ≡ linkOf w) × (r .prefix ≡ lower w) × (r .length ≡ lengthOf w) × (r .priority ≡ rankOf w) ⌝ }
 {
@@ -91,16 +90,62 @@ fn ties_with(link: &[u16; 64], v: usize, w: u64, x: u64) -> bool
     false
 }
 
+// 0 where x and w have the same rank, else 2^44 at least (that is for speed: no proof needs it).
+fn rank_gap(x: u64, w: u64) -> u64
+    ensures { λ r. ⌜ (rankOf x ≡ rankOf w → r ≡ 0) × (r < 2 ^ 60) ⌝ }
+{
+    (x ^ w) % 1152921504606846976 / 17592186044416 * 17592186044416
+}
+
+// Whether the rank of w is surely no word's: the highest bit of `all` stays only where each word's rank is another.
+// It has no way out before the last word, so that the compiler can take several at once. A number that is not live has the word 0, so rank 0.
+fn lacks_rank(rule: &[u64; 256], w: u64) -> bool
+    ensures { λ r. ⌜ (r ≡ true → (i : ℕ) → i < 256 → rankOf (getD (now (rule .entry)) i 0) ≡ rankOf w → ⊥) ⌝ }
+{
+    let mut all: u64 = 18446744073709551615;
+    let mut i: usize = 0;
+    while i < 256 {
+        all &= rank_gap(rule[i], w) + 9223354444668731392;
+        i += 1;
+    }
+    9223372036854775808 <= all
+}
+
 // Whether a live rule at node v overlaps with w and has the same rank.
 pub fn ties(link: &[u16; 64], rule: &[u64; 256], v: usize, w: u64) -> bool
     ensures { λ r. ⌜ r ≡ anyBelow 256 (λ i. tying (now (link .entry)) v w (getD (now (rule .entry)) i 0)) ⌝ }
 {
+    if lacks_rank(rule, w) {
+        return false;
+    }
     let mut i: usize = 0;
     while i < 256 {
         if ties_with(link, v, w, rule[i]) {
             return true;
         }
         i += 1;
+    }
+    false
+}
+
+// Marks in `here` the links whose source is node v.
+fn links_at(link: &[u16; 64], v: usize, here: &mut [bool; 64])
+    ensures { λ r. ⌜ Marks (now (link .entry)) v (now (here .exit)) ⌝ }
+{
+    let s: &mut [bool] = here;
+    let mut l: usize = 0;
+    while l < 64 {
+        s[l] = crate::link::source_of(link[l]) == v;
+        l += 1;
+    }
+}
+
+// Whether x is a live rule on a link that is marked.
+fn stands_on(here: &[bool; 64], x: u64) -> bool
+    ensures { λ r. ⌜ r ≡ (live x && getD (now (here .entry)) (linkOf x) false) ⌝ }
+{
+    if here[link_of(x)] {
+        return x != 0;
     }
     false
 }
@@ -115,12 +160,14 @@ pub fn gather(
 ) -> usize
     ensures { λ r. ⌜ Gathers (now (link .entry)) (now (rule .entry)) v w (now (among .exit)) r ⌝ }
 {
+    let mut here = [false; 64];
+    links_at(link, v, &mut here);
     let numbers: &mut [u16] = among;
     let mut count: usize = 0;
     let mut i: usize = 0;
     while i < 256 {
         let x = rule[i];
-        if stands_at(link, v, x) {
+        if stands_on(&here, x) {
             if overlaps(x, w) {
                 numbers[count] = i as u16;
                 count += 1;

@@ -4,10 +4,12 @@ use mathlib.Core.Path.{_≡_, sym, _∙_}
 use Prim.Native.Nat.{_-_, _≤_}
 use native.Mathlib.Omega.{arith}
 use lib.ListN.{getD}
+use denote.Ref.{now}
 use borrow.Author.Needs.{needs}
 use Rattle.meaning.specs.Search.{anyBelow}
 use Rattle.meaning.proofs.Members.{any-true, any-none, any-more}
 use Rattle.hall.specs.Gathered.{tying}
+use Rattle.hall.proofs.Rules.{ties-nowhere}
 use Rattle.hall.proofs.rule.ties.Statement.{statement}
 use Rattle.hall.proofs.rule.ties.Tie as tie
 
@@ -16,6 +18,12 @@ Inv-loop link rule v w i₀ i = (i ≤ 256) × (anyBelow i (λ k. tying link v w
 
 abbrev μ-loop : tie.MeasureT-loop
 μ-loop link rule v w i₀ i = 256 - i
+
+lacks-rank-requires : tie.Need-lacks-rank-requires Inv-loop μ-loop
+lacks-rank-requires c κs = search needs
+
+returns : tie.Need-returns Inv-loop μ-loop
+returns c = ties-nowhere _ (now (c .before .before .args .rule)) _ _ (c .before .lacks-rank .ensures (c .if1 .taken))
 
 loop-holds : tie.Need-loop-holds Inv-loop μ-loop
 loop-holds c = (search needs, any-none _)
@@ -29,10 +37,10 @@ element-copy-out-ties-with c = search needs
 ties-with-requires : tie.Need-ties-with-requires Inv-loop μ-loop
 ties-with-requires c κs = search needs
 
-returns : tie.Need-returns Inv-loop μ-loop
-returns c =
+returns-2 : tie.Need-returns-2 Inv-loop μ-loop
+returns-2 c =
     let b = c .before .before in
-    sym (any-true _ 256 (b .before .before .loop .i) (omega arith) (sym (c .before .ties-with .ensures) ∙ c .if1 .taken))
+    sym (any-true _ 256 (b .before .before .loop .i) (omega arith) (sym (c .before .ties-with .ensures) ∙ c .if2 .taken))
 
 add-i : tie.Need-add-i Inv-loop μ-loop
 add-i c = search needs
@@ -41,10 +49,10 @@ loop-less : tie.Need-loop-less Inv-loop μ-loop
 loop-less c = search needs
 
 loop-again : tie.Need-loop-again Inv-loop μ-loop
-loop-again c = (search needs, any-more _ _ (c .before .before .before .before .loop .inv .1) (sym (c .before .ties-with .ensures) ∙ c .if1 .left))
+loop-again c = (search needs, any-more _ _ (c .before .before .before .before .loop .inv .1) (sym (c .before .ties-with .ensures) ∙ c .if2 .left))
 
-returns-2 : tie.Need-returns-2 Inv-loop μ-loop
-returns-2 c =
+returns-3 : tie.Need-returns-3 Inv-loop μ-loop
+returns-3 c =
     let done : c .before .loop .i ≡ 256 = omega arith in
     sym (rw done at (c .before .loop .inv .1))
 
@@ -54,12 +62,14 @@ ties-spec =
     (tie.spec
     Inv-loop
     μ-loop
+    lacks-rank-requires
+    returns
     loop-holds
     mul-ties-with
     element-copy-out-ties-with
     ties-with-requires
-    returns
+    returns-2
     add-i
     loop-less
     loop-again
-    returns-2)
+    returns-3)
