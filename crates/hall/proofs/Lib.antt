@@ -8,3 +8,4 @@ mod Clears
 mod Running
 mod Updated
 mod Others
+mod Leads
