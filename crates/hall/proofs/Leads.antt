@@ -14,8 +14,11 @@ use lib.Dec.{eqb}
 use lib.ListN.{length, getD, set}
 use lib.Seq.{getD-set-same, getD-set-other}
 use borrow.Author.Tests.{eq-eqb, ne-eqb, eqb-true, not-false, le-ltb}
+use Rattle.meaning.specs.declared.Record.the-variants.{Loop as loop}
+use Rattle.meaning.specs.declared.Answer.the-variants.{NoLoop}
 use Rattle.meaning.specs.Hall.{State}
 use Rattle.meaning.specs.Labels.{bit, on}
+use Rattle.meaning.specs.Questions.{byAddress}
 use Rattle.meaning.specs.Walk.{at, leave, move, after, standsAt, onCircle}
 use Rattle.meaning.proofs.Bits.{bit-lt, bit-of-zero, bit-or, bit-and, bit-not, set-bit}
 use Rattle.meaning.proofs.Members.{any-true, any-some}
@@ -25,7 +28,7 @@ use Rattle.meaning.proofs.Circles.{round-again}
 use Rattle.meaning.proofs.Owners.{ownerIn, via, nextIn, endIn, Whole}
 use Rattle.meaning.proofs.Moving.{among, Off, no-owner, to-node, to-end}
 use Rattle.meaning.proofs.Labelled.{starts}
-use Rattle.meaning.proofs.ByPlace.{ends-of}
+use Rattle.meaning.proofs.ByPlace.{small-atom, ends-of, loop-none}
 use Rattle.hall.specs.Moves.{Comes}
 use Rattle.hall.specs.Leads.{Empty, leadsTo, Leads, Joined, Onward, OffLeads, Widened, Toward, Together, OffWalks, Heads}
 
@@ -272,3 +275,12 @@ off-walks link label lead off L O = record { each = λ owner T n k hk. off-of li
 
 pub heads : (link label lead : List ℕ) (w to : ℕ) → Leads link label 64 lead → Toward lead w to → Heads link label w to
 heads link label lead w to L F = record { each = λ owner T k hk. comes-of link label lead owner L T k hk w to F }
+
+-- ---- the answers
+
+-- where no node lies on a circle of leads, there is no loop
+pub no-loop : (m : State) (label owner : List ℕ) → Whole m label owner → (off : ℕ) → OffWalks (m .link) label off → off ≡ 65535 → byAddress m loop ≡ NoLoop
+no-loop m label owner W off O e =
+    loop-none m label owner W (λ p h u l.
+    O .each owner (together m label owner W) (m .nodes) (getD (m .number) p 0) (small-atom m label owner W p h) .none-on u
+    (rw e (in-all u (omega (arith, W .sound .small)))))

@@ -34,7 +34,8 @@ pub fn fate_from(
     crate::walk::follow(link, owner, atom, h.nodes, v)
 }
 
-// The lowest address that goes round from some node, and the lowest node on one of its circles.
+// The lowest address that goes round from some node, and the lowest node on one of its circles. Nodes that lie on no circle of leads are
+// not looked at.
 pub fn find_loop(
     h: Hall,
     link: &[u16; 64],
@@ -49,17 +50,19 @@ pub fn find_loop(
 {
     let atoms = h.atoms as usize;
     let nodes = h.nodes;
-    let mut answer = Answer::NoLoop;
+    let never = crate::lead::off_walks(link, label);
+    if never == 65535 {
+        return Answer::NoLoop;
+    }
     let mut p: usize = 0;
-    'search: while p < atoms {
+    while p < atoms {
         let atom = crate::atom::atom_at(number, Place(p)).0 as usize;
-        let mut off: u16 = 0;
+        let mut off = never;
         let mut v: u8 = 0;
         while v < nodes {
             match crate::walk::look(link, owner, atom, nodes, v, off) {
                 Seen::Circle => {
-                    answer = Answer::Loop(cut[p], v);
-                    break 'search;
+                    return Answer::Loop(cut[p], v);
                 }
                 Seen::Off(more) => {
                     off = more;
@@ -69,7 +72,7 @@ pub fn find_loop(
         }
         p += 1;
     }
-    answer
+    Answer::NoLoop
 }
 
 // The lowest address whose walk from node v stands at node w.
