@@ -3,6 +3,7 @@ use mathlib.Core.Path.{_≡_, refl, sym, ap, ap₂, _∙_}
 use mathlib.Core.Logic.{_⊎_, inl, inr, ⊎-elim}
 use mathlib.Core.Bool.{Bool, true, false, _||_, not, true≢false}
 use mathlib.Core.List.{List}
+use mathlib.Core.Option.{Option}
 use Prim.Native.Nat.{ℕ, zero, suc, _+_, _-_, _*_, _/_, _%_, _^_, _≤_, _<_}
 use native.Mathlib.Nat.{mod-eq-of-lt, one-mul, add-zero}
 use native.Mathlib.Decide.{ℕ-discrete, decLt}
@@ -14,21 +15,22 @@ use lib.Dec.{eqb}
 use lib.ListN.{length, getD, set}
 use lib.Seq.{getD-set-same, getD-set-other}
 use borrow.Author.Tests.{eq-eqb, ne-eqb, eqb-true, not-false, le-ltb}
-use Rattle.meaning.specs.declared.Record.the-variants.{Loop as loop}
-use Rattle.meaning.specs.declared.Answer.the-variants.{NoLoop}
+use Rattle.meaning.specs.declared.Record.the-variants.{Loop as loop, Reach as reach}
+use Rattle.meaning.specs.declared.Answer.the-variants.{NoLoop, No}
 use Rattle.meaning.specs.Hall.{State}
 use Rattle.meaning.specs.Labels.{bit, on}
 use Rattle.meaning.specs.Questions.{byAddress}
-use Rattle.meaning.specs.Walk.{at, leave, move, after, standsAt, onCircle}
+use Rattle.meaning.specs.Walk.{at, leave, move, after, standsAt, onCircle, comesTo}
+use Rattle.meaning.proofs.Places.{le-or-lt}
 use Rattle.meaning.proofs.Bits.{bit-lt, bit-of-zero, bit-or, bit-and, bit-not, set-bit}
 use Rattle.meaning.proofs.Members.{any-true, any-some}
 use Rattle.meaning.proofs.Means.{stands-at, at-stands}
-use Rattle.meaning.proofs.Walks.{going-le}
+use Rattle.meaning.proofs.Walks.{after-add, going-le}
 use Rattle.meaning.proofs.Circles.{round-again}
 use Rattle.meaning.proofs.Owners.{ownerIn, via, nextIn, endIn, Whole}
-use Rattle.meaning.proofs.Moving.{among, Off, no-owner, to-node, to-end}
+use Rattle.meaning.proofs.Moving.{among, Off, NotYet, no-owner, to-node, to-end}
 use Rattle.meaning.proofs.Labelled.{starts}
-use Rattle.meaning.proofs.ByPlace.{small-atom, ends-of, loop-none}
+use Rattle.meaning.proofs.ByPlace.{small-atom, ends-of, loop-none, reach-none}
 use Rattle.hall.specs.Moves.{Comes}
 use Rattle.hall.specs.Leads.{Empty, leadsTo, Leads, Joined, Onward, OffLeads, Widened, Toward, Together, OffWalks, Heads}
 
@@ -276,6 +278,24 @@ off-walks link label lead off L O = record { each = λ owner T n k hk. off-of li
 pub heads : (link label lead : List ℕ) (w to : ℕ) → Leads link label 64 lead → Toward lead w to → Heads link label w to
 heads link label lead w to L F = record { each = λ owner T k hk. comes-of link label lead owner L T k hk w to F }
 
+-- a walk that stands at a node of which no walk comes to w, and stood at other nodes than w before, does not come to w
+pub strayed : (next : ℕ → Option ℕ) (end : ℕ → ℕ) (v w i u to : ℕ) → after next end i (at v) ≡ at u → NotYet next end v w i
+    → Comes next end w to → u < 16 → bit to u ≡ 0 → (n : ℕ) → comesTo next end n v w ≡ false
+unfolding comesTo
+strayed next end v w i u to here before C h e n = go (comesTo next end n v w) refl
+  where
+    later : (k : ℕ) → i ≤ k → after next end k (at v) ≡ at w → ⊥
+    later k l f =
+        let q : i + (k - i) ≡ k = omega arith in
+        let r = sym (ap (after next end (k - i)) here) ∙ sym (after-add next end i (k - i) (at v)) ∙ ap (λ (j : ℕ). after next end j (at v)) q ∙ f in
+        omega (arith, e, eqb-true (bit to u) 1 (C .from u h (k - i, r)))
+
+    go : (t : Bool) → comesTo next end n v w ≡ t → t ≡ false
+    go false f = refl
+    go true f =
+        let r = any-some (λ k. standsAt w (after next end k (at v))) n f in
+        absurd (⊎-elim (λ (l : i ≤ r .0). later (r .0) l (stands-at w _ (r .2))) (λ (l : r .0 < i). both (r .2) (before (r .0) l)) (le-or-lt i (r .0)))
+
 -- ---- the answers
 
 -- where no node lies on a circle of leads, there is no loop
@@ -284,3 +304,11 @@ no-loop m label owner W off O e =
     loop-none m label owner W (λ p h u l.
     O .each owner (together m label owner W) (m .nodes) (getD (m .number) p 0) (small-atom m label owner W p h) .none-on u
     (rw e (in-all u (omega (arith, W .sound .small)))))
+
+-- where no leads go from v to w, no walk does
+pub no-reach : (m : State) (label owner : List ℕ) → Whole m label owner → (v w to : ℕ) → Heads (m .link) label w to → v < 16 → bit to v ≡ 0
+    → byAddress m (reach v w) ≡ No
+unfolding after
+no-reach m label owner W v w to F h e =
+    reach-none m label owner W v w (λ q l.
+    strayed _ _ v w 0 v to refl (λ k b. absurd (omega arith)) (F .each owner (together m label owner W) (getD (m .number) q 0) (small-atom m label owner W q l)) h e (m .nodes))

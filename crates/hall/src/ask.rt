@@ -75,7 +75,7 @@ pub fn find_loop(
     Answer::NoLoop
 }
 
-// The lowest address whose walk from node v stands at node w.
+// The lowest address whose walk from node v stands at node w. Where no leads go from v to w, no walk does.
 pub fn find_reach(
     h: Hall,
     link: &[u16; 64],
@@ -92,10 +92,14 @@ pub fn find_reach(
     ensures { λ r. ⌜ r ≡ byAddress (stateOf h (now (link .entry)) (now (rule .entry)) (now (cut .entry)) (now (number .entry))) (askReach v w) ⌝ }
 {
     let atoms = h.atoms as usize;
+    let to = crate::lead::heads(link, label, w);
+    if (to >> v) % 2 == 0 {
+        return Answer::No;
+    }
     let mut p: usize = 0;
     while p < atoms {
         let atom = crate::atom::atom_at(number, Place(p)).0 as usize;
-        if crate::walk::comes_to(link, owner, atom, h.nodes, v, w) {
+        if crate::walk::comes_to(link, owner, atom, h.nodes, v, w, to) {
             return Answer::Yes(cut[p]);
         }
         p += 1;
