@@ -51,18 +51,20 @@ pub fn find_loop(
     let atoms = h.atoms as usize;
     let nodes = h.nodes;
     let never = crate::lead::off_walks(link, label);
+    let mut answer = Answer::NoLoop;
     if never == 65535 {
-        return Answer::NoLoop;
+        return answer;
     }
     let mut p: usize = 0;
-    while p < atoms {
+    'search: while p < atoms {
         let atom = crate::atom::atom_at(number, Place(p)).0 as usize;
         let mut off = never;
         let mut v: u8 = 0;
         while v < nodes {
             match crate::walk::look(link, owner, atom, nodes, v, off) {
                 Seen::Circle => {
-                    return Answer::Loop(cut[p], v);
+                    answer = Answer::Loop(cut[p], v);
+                    break 'search;
                 }
                 Seen::Off(more) => {
                     off = more;
@@ -72,7 +74,7 @@ pub fn find_loop(
         }
         p += 1;
     }
-    Answer::NoLoop
+    answer
 }
 
 // The lowest address whose walk from node v stands at node w. Where no leads go from v to w, no walk does.
