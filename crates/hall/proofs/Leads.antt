@@ -1,15 +1,14 @@
 -- Leads by links that have an atom: how they are gathered, and what they show of the walks of all atoms. Assumes nothing.
 use mathlib.Core.Path.{_≡_, refl, sym, ap, ap₂, _∙_}
-use mathlib.Core.Logic.{_⊎_, inl, inr, ⊎-elim}
-use mathlib.Core.Bool.{Bool, true, false, _||_, not, true≢false}
+use mathlib.Core.Logic.{⊎-elim}
+use mathlib.Core.Bool.{Bool, true, false, not, true≢false}
 use mathlib.Core.List.{List}
 use mathlib.Core.Option.{Option}
 use Prim.Native.Nat.{ℕ, zero, suc, _+_, _-_, _*_, _/_, _%_, _^_, _≤_, _<_}
-use native.Mathlib.Nat.{mod-eq-of-lt, one-mul, add-zero}
+use native.Mathlib.Nat.{mod-eq-of-lt, add-zero}
 use native.Mathlib.Decide.{ℕ-discrete, decLt}
 use native.Mathlib.Omega.{arith}
 use borrow.Author.Count.{below-more}
-use lib.Pow.{pow-lt}
 use lib.Bits.{bitOr, bitAnd, or-add-and, and-le-l, and-le-r}
 use lib.Dec.{eqb}
 use lib.ListN.{length, getD, set}
@@ -22,60 +21,21 @@ use Rattle.meaning.specs.Labels.{bit, on}
 use Rattle.meaning.specs.Questions.{byAddress}
 use Rattle.meaning.specs.Walk.{at, leave, move, after, standsAt, onCircle, comesTo}
 use Rattle.meaning.proofs.Places.{le-or-lt}
-use Rattle.meaning.proofs.Bits.{bit-lt, bit-of-zero, bit-or, bit-and, bit-not, set-bit}
+use Rattle.meaning.proofs.Bits.{bit-of-zero}
 use Rattle.meaning.proofs.Members.{any-true, any-some}
 use Rattle.meaning.proofs.Means.{stands-at, at-stands}
 use Rattle.meaning.proofs.Walks.{after-add, going-le}
 use Rattle.meaning.proofs.Circles.{round-again}
 use Rattle.meaning.proofs.Owners.{ownerIn, via, nextIn, endIn, Whole}
-use Rattle.meaning.proofs.Moving.{among, Off, NotYet, no-owner, to-node, to-end}
+use Rattle.meaning.proofs.Moving.{among, in-none, in-all, in-either, in-both, in-alone, in-new, in-old, Off, NotYet, no-owner, to-node, to-end}
 use Rattle.meaning.proofs.Labelled.{starts}
 use Rattle.meaning.proofs.ByPlace.{small-atom, ends-of, loop-none, reach-none}
 use Rattle.hall.specs.Moves.{Comes}
 use Rattle.hall.specs.Leads.{Empty, leadsTo, Leads, Joined, Onward, OffLeads, Widened, Toward, Together, OffWalks, Heads}
 
--- ---- sets of nodes as words
-
 -- what is true and false at once
 both : {t : Bool} → t ≡ true → t ≡ false → ⊥
 both e f = true≢false (sym e ∙ f)
-
-one : (u : ℕ) → u < 16 → 1 * 2 ^ u % 65536 ≡ 2 ^ u
-one u h = ap (λ (x : ℕ). x % 65536) (one-mul (2 ^ u)) ∙ mod-eq-of-lt (pow-lt {j = 16} h)
-
-module _ (a b u : ℕ) where
-  in-left : among a u ≡ true → among (bitOr a b) u ≡ true
-  in-left e = eq-eqb (bit (bitOr a b) u) 1 (omega (arith, bit-or a b u, bit-lt b u, eqb-true (bit a u) 1 e))
-
-  in-both : among a u ≡ true → among b u ≡ true → among (bitAnd a b) u ≡ true
-  in-both e f = eq-eqb (bit (bitAnd a b) u) 1 (omega (arith, bit-and a b u, eqb-true (bit a u) 1 e, eqb-true (bit b u) 1 f))
-
-in-none : (u : ℕ) → among 0 u ≡ true → ⊥
-in-none u e = let z : _≡_ {A = ℕ} 0 1 = sym (bit-of-zero u) ∙ eqb-true (bit 0 u) 1 e in omega arith
-
--- the word of all 16
-pub in-all : (u : ℕ) → u < 16 → among 65535 u ≡ true
-in-all u h = eq-eqb (bit 65535 u) 1 (bit-not 16 0 u (omega arith) h ∙ ap (λ (x : ℕ). 1 - x) (bit-of-zero u))
-
--- a node that joins a word of 16
-module _ (nodes v : ℕ) (h : v < 16) where
-  in-kept : (x : ℕ) → among nodes x ≡ true → among (bitOr nodes (1 * 2 ^ v % 65536)) x ≡ true
-  in-kept x e = in-left nodes (1 * 2 ^ v % 65536) x e
-
-  in-new : among (bitOr nodes (1 * 2 ^ v % 65536)) v ≡ true
-  in-new = rw (one v h) (set-bit nodes v v ∙ ap (λ (t : Bool). among nodes v || t) (eq-eqb v v refl) ∙ last (among nodes v))
-    where
-      last : (t : Bool) → (t || true) ≡ true
-      last true = refl
-      last false = refl
-
-  in-old : (x : ℕ) → among (bitOr nodes (1 * 2 ^ v % 65536)) x ≡ true → (among nodes x ≡ true) ⊎ (v ≡ x)
-  in-old x e = go (among nodes x) refl (ℕ-discrete v x) (rw (one v h) at e)
-    where
-      go : (t : Bool) → among nodes x ≡ t → Dec (v ≡ x) → among (bitOr nodes (2 ^ v)) x ≡ true → (among nodes x ≡ true) ⊎ (v ≡ x)
-      go true f d e = inl f
-      go false f (yes q) e = inr q
-      go false f (no q) e = absurd (both e (set-bit nodes v x ∙ ap₂ _||_ f (ne-eqb v x q)))
 
 -- ---- a link that has no atom
 
@@ -123,7 +83,7 @@ joined before v u size hv hu = record {
     go : (x y : ℕ) → leadsTo before x y ≡ true → Dec (x ≡ v) → leadsTo (set before v (bitOr (getD before v 0) (1 * 2 ^ u % 65536))) x y ≡ true
     go x y e (yes q) =
         rw (q, getD-set-same before v (bitOr (getD before v 0) (1 * 2 ^ u % 65536)) 0 (omega arith))
-        (in-left (getD before v 0) (1 * 2 ^ u % 65536) y (rw q at e))
+        (in-either (getD before v 0) (1 * 2 ^ u % 65536) y (rw q at e))
     go x y e (no n) = rw (getD-set-other before v x (bitOr (getD before v 0) (1 * 2 ^ u % 65536)) 0 n) e
 
 -- one link more
@@ -163,7 +123,7 @@ off-more lead off v h O e = record { none-in = λ C o x i. ⊎-elim (O .none-in 
     go C o false f = f
     go C o true f =
         let r = o .on v f in
-        let i : among off (r .0) ≡ true = rw e at (in-left (getD lead v 0) off (r .0) (r .2)) in
+        let i : among off (r .0) ≡ true = rw e at (in-either (getD lead v 0) off (r .0) (r .2)) in
         absurd (both (r .1) (O .none-in C o (r .0) i))
 
 -- ---- nodes that lead to w
@@ -181,14 +141,14 @@ module _ (lead : List ℕ) (to v more : ℕ) (F : Widened lead to v more) where
       go x u h e i (no n) = kept x (F .back x u (omega arith) e i)
 
   pub widened-more : v < 16 → Widened lead to (v + 1) (bitOr more (1 * 2 ^ v % 65536))
-  widened-more h = wider (bitOr more (1 * 2 ^ v % 65536)) (in-kept more v h) (λ u e i. in-new more v h)
+  widened-more h = wider (bitOr more (1 * 2 ^ v % 65536)) (λ x. in-either more (1 * 2 ^ v % 65536) x) (λ u e i. in-new more v h)
 
   pub widened-same : bitAnd (getD lead v 0) more ≡ 0 → Widened lead to (v + 1) more
   widened-same e = wider more (λ x i. i) (λ u f i. absurd (in-none u (rw e at (in-both (getD lead v 0) more u f (F .kept u i)))))
 
 -- w itself
 pub toward-start : (w : ℕ) → w < 16 → among (1 * 2 ^ (w % 16) % 65536) w ≡ true
-toward-start w h = rw (mod-eq-of-lt h, one w h) (set-bit 0 w w ∙ ap₂ _||_ (ap (λ (d : ℕ). eqb d 1) (bit-of-zero w)) (eq-eqb w w refl))
+toward-start w h = rw (mod-eq-of-lt h) (in-alone w h)
 
 -- what grows no more is all
 pub toward-settled : (lead : List ℕ) (w to more : ℕ) → (w < 16 → among to w ≡ true) → Widened lead to 16 more → more ≡ to → Toward lead w to
