@@ -31,7 +31,7 @@ use Rattle.meaning.proofs.Moving.{among, in-none, in-all, in-either, in-both, i
 use Rattle.meaning.proofs.Labelled.{starts}
 use Rattle.meaning.proofs.ByPlace.{small-atom, ends-of, loop-none, reach-none}
 use Rattle.hall.specs.Moves.{Comes}
-use Rattle.hall.specs.Leads.{Empty, leadsTo, Leads, Joined, Onward, OffLeads, Widened, Toward, Together, OffWalks, Heads}
+use Rattle.hall.specs.Leads.{Empty, leadsTo, Leads, Joined, Onward, OffLeads, Widened, TowardLeads, Together, OffWalks, TowardWalks}
 
 -- what is true and false at once
 both : {t : Bool} → t ≡ true → t ≡ false → ⊥
@@ -151,10 +151,10 @@ pub toward-start : (w : ℕ) → w < 16 → among (1 * 2 ^ (w % 16) % 65536) w �
 toward-start w h = rw (mod-eq-of-lt h) (in-alone w h)
 
 -- what grows no more is all
-pub toward-settled : (lead : List ℕ) (w to more : ℕ) → (w < 16 → among to w ≡ true) → Widened lead to 16 more → more ≡ to → Toward lead w to
+pub toward-settled : (lead : List ℕ) (w to more : ℕ) → (w < 16 → among to w ≡ true) → Widened lead to 16 more → more ≡ to → TowardLeads lead w to
 toward-settled lead w to more s F e = record { start = s; back = λ v u h f i. rw e at (F .back v u h f i) }
 
-pub toward-all : (lead : List ℕ) (w : ℕ) → Toward lead w 65535
+pub toward-all : (lead : List ℕ) (w : ℕ) → TowardLeads lead w 65535
 toward-all lead w = record { start = in-all w; back = λ v u h f i. in-all v h }
 
 -- ---- the walks of all atoms
@@ -221,7 +221,7 @@ module _ (link label lead owner : List ℕ) (L : Leads link label 64 lead) (T : 
   pub off-of : (n off : ℕ) → OffLeads lead off → Off (nextIn owner k) (endIn link) n off
   off-of n off O = record { none-on = O .none-in (onCircle (nextIn owner k) (endIn link) n) (onward n) }
 
-  pub comes-of : (w to : ℕ) → Toward lead w to → Comes (nextIn owner k) (endIn link) w to
+  pub comes-of : (w to : ℕ) → TowardLeads lead w to → Comes (nextIn owner k) (endIn link) w to
   unfolding after
   comes-of w to F = record { from = λ x h r. go (r .0) x h (r .1) }
     where
@@ -235,8 +235,8 @@ module _ (link label lead owner : List ℕ) (L : Leads link label 64 lead) (T : 
 pub off-walks : (link label lead : List ℕ) (off : ℕ) → Leads link label 64 lead → OffLeads lead off → OffWalks link label off
 off-walks link label lead off L O = record { each = λ owner T n k hk. off-of link label lead owner L T k hk n off O }
 
-pub heads : (link label lead : List ℕ) (w to : ℕ) → Leads link label 64 lead → Toward lead w to → Heads link label w to
-heads link label lead w to L F = record { each = λ owner T k hk. comes-of link label lead owner L T k hk w to F }
+pub toward-walks : (link label lead : List ℕ) (w to : ℕ) → Leads link label 64 lead → TowardLeads lead w to → TowardWalks link label w to
+toward-walks link label lead w to L F = record { each = λ owner T k hk. comes-of link label lead owner L T k hk w to F }
 
 -- a walk that stands at a node of which no walk comes to w, and stood at other nodes than w before, does not come to w
 pub strayed : (next : ℕ → Option ℕ) (end : ℕ → ℕ) (v w i u to : ℕ) → after next end i (at v) ≡ at u → NotYet next end v w i
@@ -266,7 +266,7 @@ no-loop m label owner W off O e =
     (rw e (in-all u (omega (arith, W .sound .small)))))
 
 -- where no leads go from v to w, no walk does
-pub no-reach : (m : State) (label owner : List ℕ) → Whole m label owner → (v w to : ℕ) → Heads (m .link) label w to → v < 16 → bit to v ≡ 0
+pub no-reach : (m : State) (label owner : List ℕ) → Whole m label owner → (v w to : ℕ) → TowardWalks (m .link) label w to → v < 16 → bit to v ≡ 0
     → byAddress m (reach v w) ≡ No
 unfolding after
 no-reach m label owner W v w to F h e =

@@ -47,7 +47,7 @@ pub record Widened (lead : List ℕ) (to n more : ℕ) : Type 0 where
   pub back : (v u : ℕ) → v < n → leadsTo lead v u ≡ true → among to u ≡ true → among more v ≡ true
 
 -- `to` has node w, and each node that leads to one of its own
-pub record Toward (lead : List ℕ) (w to : ℕ) : Type 0 where
+pub record TowardLeads (lead : List ℕ) (w to : ℕ) : Type 0 where
   pub start : w < 16 → among to w ≡ true
   pub back : (v u : ℕ) → v < 16 → leadsTo lead v u ≡ true → among to u ≡ true → among to v ≡ true
 
@@ -64,5 +64,5 @@ pub record OffWalks (link label : List ℕ) (off : ℕ) : Type 0 where
   pub each : (owner : List ℕ) → Together link label owner → (n k : ℕ) → k < 512 → Off (nextIn owner k) (endIn link) n off
 
 -- `to` has each node from which the walk of any atom comes to w
-pub record Heads (link label : List ℕ) (w to : ℕ) : Type 0 where
+pub record TowardWalks (link label : List ℕ) (w to : ℕ) : Type 0 where
   pub each : (owner : List ℕ) → Together link label owner → (k : ℕ) → k < 512 → Comes (nextIn owner k) (endIn link) w to

@@ -94,7 +94,7 @@ pub fn find_reach(
     ensures { λ r. ⌜ r ≡ byAddress (stateOf h (now (link .entry)) (now (rule .entry)) (now (cut .entry)) (now (number .entry))) (askReach v w) ⌝ }
 {
     let atoms = h.atoms as usize;
-    let to = crate::lead::heads(link, label, w);
+    let to = crate::lead::toward_walks(link, label, w);
     if (to >> v) % 2 == 0 {
         return Answer::No;
     }

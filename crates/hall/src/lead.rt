@@ -2,7 +2,7 @@
 ghost use mathlib.Core.Path.{_≡_};
 ghost use mathlib.Core.Bool.{false};
 ghost use Prim.Native.Nat.{_+_, _<_};
-ghost use Rattle.hall.specs.Leads.{Empty, Leads, Joined, OffLeads, Widened, Toward, OffWalks, Heads};
+ghost use Rattle.hall.specs.Leads.{Empty, Leads, Joined, OffLeads, Widened, TowardLeads, OffWalks, TowardWalks};
 
 // Whether link l has an atom.
 fn carries(label: &[u64; 512], l: usize) -> bool
@@ -117,8 +117,8 @@ fn toward_once(lead: &[u16; 16], to: u16) -> u16
 }
 
 // Node w and all that leads to it; all nodes where 16 rounds have not shown which.
-fn toward(lead: &[u16; 16], w: u8) -> u16
-    ensures { λ r. ⌜ Toward (now (lead .entry)) w r ⌝ }
+fn toward_leads(lead: &[u16; 16], w: u8) -> u16
+    ensures { λ r. ⌜ TowardLeads (now (lead .entry)) w r ⌝ }
 {
     let mut to: u16 = 1u16 << (w % 16);
     let mut i: usize = 0;
@@ -134,10 +134,10 @@ fn toward(lead: &[u16; 16], w: u8) -> u16
 }
 
 // The nodes from which some atom's walk may come to node w, a bit for each.
-pub fn heads(link: &[u16; 64], label: &[u64; 512], w: u8) -> u16
-    ensures { λ r. ⌜ Heads (now (link .entry)) (now (label .entry)) w r ⌝ }
+pub fn toward_walks(link: &[u16; 64], label: &[u64; 512], w: u8) -> u16
+    ensures { λ r. ⌜ TowardWalks (now (link .entry)) (now (label .entry)) w r ⌝ }
 {
     let mut lead = [0u16; 16];
     leads(link, label, &mut lead);
-    toward(&lead, w)
+    toward_leads(&lead, w)
 }

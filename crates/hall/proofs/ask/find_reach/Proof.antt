@@ -18,8 +18,8 @@ abbrev μ-loop : tie.MeasureT-loop
 cast-atoms : tie.Need-cast-atoms Inv-loop μ-loop
 cast-atoms c = search needs
 
-heads-requires : tie.Need-heads-requires Inv-loop μ-loop
-heads-requires c κs = search needs
+toward-walks-requires : tie.Need-toward-walks-requires Inv-loop μ-loop
+toward-walks-requires c κs = search needs
 
 shr-if1 : tie.Need-shr-if1 Inv-loop μ-loop
 shr-if1 c =
@@ -29,7 +29,7 @@ shr-if1 c =
 returns : tie.Need-returns Inv-loop μ-loop
 returns c =
     let s = c .before .before .before in
-    sym (no-reach _ _ _ (s .pre .0) _ _ _ (c .before .heads .ensures) (omega (arith, s .pre .1, s .pre .0 .sound .small)) (c .if1 .taken))
+    sym (no-reach _ _ _ (s .pre .0) _ _ _ (c .before .toward-walks .ensures) (omega (arith, s .pre .1, s .pre .0 .sound .small)) (c .if1 .taken))
 
 loop-holds : tie.Need-loop-holds Inv-loop μ-loop
 loop-holds c = (omega arith, λ q l. absurd (omega arith))
@@ -45,7 +45,7 @@ comes-to-requires c κs =
     let s = c .before .before .before .before .before in
     let W = s .before .before .pre .0 in
     let q : c .before .atom-at .result .0 < 512 = rw (c .before .atom-at .ensures) (small-atom _ _ _ W _ (omega arith)) in
-    (q, omega (arith, s .before .before .pre .1, W .sound .small), W .sound .small, ends-of _ _ _ W, s .heads .ensures .each _ (together _ _ _ W) _ q)
+    (q, omega (arith, s .before .before .pre .1, W .sound .small), W .sound .small, ends-of _ _ _ W, s .toward-walks .ensures .each _ (together _ _ _ W) _ q)
 
 mul-t22 : tie.Need-mul-t22 Inv-loop μ-loop
 mul-t22 c = search needs
@@ -83,7 +83,7 @@ find-reach-spec =
     Inv-loop
     μ-loop
     cast-atoms
-    heads-requires
+    toward-walks-requires
     shr-if1
     returns
     loop-holds

@@ -1,4 +1,4 @@
--- `lead::toward` meets its contract. The loop's invariant: `to` has node w. Assumes nothing.
+-- `lead::toward_leads` meets its contract. The loop's invariant: `to` has node w. Assumes nothing.
 use borrow.Author.Needs.{needs}
 use mathlib.Core.Path.{_≡_}
 use mathlib.Core.Bool.{true}
@@ -6,8 +6,8 @@ use Prim.Native.Nat.{_-_, _≤_, _<_}
 use native.Mathlib.Omega.{arith}
 use Rattle.meaning.proofs.Moving.{among}
 use Rattle.hall.proofs.Leads.{toward-start, toward-settled, toward-all}
-use Rattle.hall.proofs.lead.toward.Statement.{statement}
-use Rattle.hall.proofs.lead.toward.Tie as tie
+use Rattle.hall.proofs.lead.toward_leads.Statement.{statement}
+use Rattle.hall.proofs.lead.toward_leads.Tie as tie
 
 abbrev Inv-loop : tie.InvT-loop
 Inv-loop lead w to₀ i₀ to i = (i ≤ 16) × (w < 16 → among to w ≡ true)
@@ -42,8 +42,8 @@ loop-again c = (omega arith, λ h. c .before .toward-once .ensures .kept _ (c .b
 returns-2 : tie.Need-returns-2 Inv-loop μ-loop
 returns-2 c = toward-all _ _
 
-pub toward-spec : {M : Type 1} → statement M
-toward-spec =
+pub toward-leads-spec : {M : Type 1} → statement M
+toward-leads-spec =
     tie.close
     (tie.spec
     Inv-loop
