@@ -6,3 +6,4 @@ mod Rules
 mod Sweeping
 mod Updated
 mod Others
+mod Leads

@@ -4,5 +4,6 @@ pub mod Gathered
 pub mod Rows
 pub mod Sweep
 pub mod Moves
+pub mod Leads
 pub mod Tallied
 pub mod Questions

@@ -4,7 +4,8 @@ use mathlib.Core.Bool.{true, false}
 use mathlib.Core.Option.{Option}
 use Prim.Native.Nat.{ℕ, _<_}
 use Rattle.meaning.specs.Walk.{Place, at, onCircle}
-use Rattle.meaning.proofs.Moving.{Off}
+use Rattle.meaning.proofs.Walks.{Reaches}
+use Rattle.meaning.proofs.Moving.{among, Off}
 use Rattle.hall.specs.declared.walk.Led.{Led}
 use Rattle.hall.specs.declared.walk.Led.the-variants.{To, Ended}
 use Rattle.hall.specs.declared.walk.Seen.{Seen}
@@ -19,3 +20,7 @@ led Ended p = (w : ℕ) → p ≡ at w → ⊥
 unfoldable pub seen : (ℕ → Option ℕ) → (ℕ → ℕ) → ℕ → ℕ → Seen → Type 0
 seen next end n v Circle = onCircle next end n v ≡ true
 seen next end n v (off nodes) = (onCircle next end n v ≡ false) × Off next end n nodes
+
+-- each of 16 nodes from which the walk comes to w is one of `to`
+pub record Comes (next : ℕ → Option ℕ) (end : ℕ → ℕ) (w to : ℕ) : Type 0 where
+  pub from : (x : ℕ) → x < 16 → Reaches next end x w → among to x ≡ true

@@ -34,7 +34,8 @@ pub fn fate_from(
     crate::walk::follow(link, owner, atom, h.nodes, v)
 }
 
-// The lowest address that goes round from some node, and the lowest node on one of its circles.
+// The lowest address that goes round from some node, and the lowest node on one of its circles. Nodes that lie on no circle of leads are
+// not looked at.
 pub fn find_loop(
     h: Hall,
     link: &[u16; 64],
@@ -49,11 +50,15 @@ pub fn find_loop(
 {
     let atoms = h.atoms as usize;
     let nodes = h.nodes;
+    let never = crate::lead::off_walks(link, label);
     let mut answer = Answer::NoLoop;
+    if never == 65535 {
+        return answer;
+    }
     let mut p: usize = 0;
     'search: while p < atoms {
         let atom = crate::atom::atom_at(number, Place(p)).0 as usize;
-        let mut off: u16 = 0;
+        let mut off = never;
         let mut v: u8 = 0;
         while v < nodes {
             match crate::walk::look(link, owner, atom, nodes, v, off) {
@@ -72,7 +77,7 @@ pub fn find_loop(
     answer
 }
 
-// The lowest address whose walk from node v stands at node w.
+// The lowest address whose walk from node v stands at node w. Where no leads go from v to w, no walk does.
 pub fn find_reach(
     h: Hall,
     link: &[u16; 64],
@@ -89,10 +94,14 @@ pub fn find_reach(
     ensures { λ r. ⌜ r ≡ byAddress (stateOf h (now (link .entry)) (now (rule .entry)) (now (cut .entry)) (now (number .entry))) (askReach v w) ⌝ }
 {
     let atoms = h.atoms as usize;
+    let to = crate::lead::toward_walks(link, label, w);
+    if (to >> v) % 2 == 0 {
+        return Answer::No;
+    }
     let mut p: usize = 0;
     while p < atoms {
         let atom = crate::atom::atom_at(number, Place(p)).0 as usize;
-        if crate::walk::comes_to(link, owner, atom, h.nodes, v, w) {
+        if crate::walk::comes_to(link, owner, atom, h.nodes, v, w, to) {
             return Answer::Yes(cut[p]);
         }
         p += 1;

@@ -2,6 +2,7 @@
 mod ask;
 mod atom;
 mod label;
+mod lead;
 mod link;
 mod rule;
 mod step;

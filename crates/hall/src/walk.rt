@@ -5,7 +5,7 @@ ghost use Prim.Native.Nat.{ℕ, _+_, _-_, _<_, _≤_};
 ghost use Rattle.meaning.specs.Walk.{at, move, arrive, told, fateIn, comesTo};
 ghost use Rattle.meaning.proofs.Owners.{nextIn, endIn, Ends};
 ghost use Rattle.meaning.proofs.Moving.{Off};
-ghost use Rattle.hall.specs.Moves.{led, seen};
+ghost use Rattle.hall.specs.Moves.{led, seen, Comes};
 
 // Where one move leads: to a node, or to an end.
 pub enum Led {
@@ -115,9 +115,18 @@ pub fn look(link: &[u16; 64], owner: &[u16; 8192], atom: usize, n: u8, v: u8, of
     Seen::Off(off)
 }
 
-// Whether the walk to an atom from node v stands at node w at some time, the start counted.
-pub fn comes_to(link: &[u16; 64], owner: &[u16; 8192], atom: usize, n: u8, v: u8, w: u8) -> bool
-    requires { ⌜ (atom < 512) × (v < 16) × (n ≤ 16) × Ends (now link) (now owner) ⌝ }
+// Whether the walk to an atom from node v stands at node w at some time, the start counted. Where the walk comes to a node that is none
+// of `to`, it comes to w no more.
+pub fn comes_to(
+    link: &[u16; 64],
+    owner: &[u16; 8192],
+    atom: usize,
+    n: u8,
+    v: u8,
+    w: u8,
+    to: u16,
+) -> bool
+    requires { ⌜ (atom < 512) × (v < 16) × (n ≤ 16) × Ends (now link) (now owner) × Comes (nextIn (now owner) atom) (endIn (now link)) w to ⌝ }
     ensures { λ r. ⌜ r ≡ comesTo (nextIn (now (owner .entry)) atom) (endIn (now (link .entry))) n v w ⌝ }
 {
     let mut here = v;
@@ -125,6 +134,9 @@ pub fn comes_to(link: &[u16; 64], owner: &[u16; 8192], atom: usize, n: u8, v: u8
     while i < n {
         if here == w {
             return true;
+        }
+        if (to >> here) % 2 == 0 {
+            return false;
         }
         match move_from(link, owner, atom, here) {
             Led::To(u) => {

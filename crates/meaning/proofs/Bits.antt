@@ -57,13 +57,13 @@ bit-ext (suc n) a b ha hb h =
 
 -- ---- bit by bit: or, and, not, a power
 
-bit-or : (a b j : ℕ) → bit (bitOr a b) j ≡ max (bit a j) (bit b j)
+pub bit-or : (a b j : ℕ) → bit (bitOr a b) j ≡ max (bit a j) (bit b j)
 bit-or a b j = ap (λ (x : ℕ). x % 2) (or-shr a b j) ∙ low (a / 2 ^ j) (b / 2 ^ j)
   where
     low : (a b : ℕ) → bitOr a b % 2 ≡ max (a % 2) (b % 2)
     low a b = omega (arith, or-step a b)
 
-bit-and : (a b j : ℕ) → bit (bitAnd a b) j ≡ min (bit a j) (bit b j)
+pub bit-and : (a b j : ℕ) → bit (bitAnd a b) j ≡ min (bit a j) (bit b j)
 bit-and a b j = ap (λ (x : ℕ). x % 2) (and-shr a b j) ∙ low (a / 2 ^ j) (b / 2 ^ j)
   where
     low : (a b : ℕ) → bitAnd a b % 2 ≡ min (a % 2) (b % 2)
@@ -77,7 +77,7 @@ not-low p a h =
     go : (x : ℕ) → x + a + 1 ≡ p * 2 → x % 2 ≡ 1 - a % 2
     go x e = omega arith
 
-bit-not : (n a j : ℕ) → a < 2 ^ n → j < n → bit (2 ^ n - 1 - a) j ≡ 1 - bit a j
+pub bit-not : (n a j : ℕ) → a < 2 ^ n → j < n → bit (2 ^ n - 1 - a) j ≡ 1 - bit a j
 bit-not zero a j h l = absurd (not-suc-le-zero l)
 bit-not (suc n) a zero h l =
     bit-zero (2 ^ suc n - 1 - a) ∙ ap (λ (x : ℕ). (x - 1 - a) % 2) (pow-suc 2 n) ∙ not-low (2 ^ n) a (omega (arith, pow-suc 2 n))

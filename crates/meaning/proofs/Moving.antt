@@ -4,16 +4,16 @@ use mathlib.Core.Logic.{_⊎_, inl, inr, ⊎-elim}
 use mathlib.Core.Bool.{Bool, true, false, _||_, true≢false}
 use mathlib.Core.List.{List}
 use mathlib.Core.Option.{Option, none, some}
-use Prim.Native.Nat.{ℕ, suc, _+_, _*_, _/_, _%_, _^_, _≤_, _<_}
+use Prim.Native.Nat.{ℕ, suc, _+_, _-_, _*_, _/_, _%_, _^_, _≤_, _<_}
 use native.Mathlib.Nat.{mod-eq-of-lt, one-mul}
 use native.Mathlib.Decide.{ℕ-discrete}
 use native.Mathlib.Numerals.{add-one}
 use native.Mathlib.Omega.{arith}
 use borrow.Author.Count.{below-more}
 use lib.Pow.{pow-lt}
-use lib.Bits.{bitOr}
+use lib.Bits.{bitOr, bitAnd, or-comm}
 use lib.Dec.{ltb, eqb}
-use borrow.Author.Tests.{lt-ltb, le-ltb, eq-eqb, ne-eqb}
+use borrow.Author.Tests.{lt-ltb, le-ltb, eq-eqb, ne-eqb, eqb-true}
 use Rattle.meaning.specs.Search.{pick, anyBelow}
 use Rattle.meaning.specs.Labels.{bit}
 use Rattle.meaning.specs.Walk.{Place, at, out, lost, arrive, leave, move, after, standsAt, onCircle, comesTo}
@@ -22,7 +22,7 @@ use Rattle.meaning.proofs.Places.{le-or-lt}
 use Rattle.meaning.proofs.Members.{any-true, any-some}
 use Rattle.meaning.proofs.Idle.{any-off}
 use Rattle.meaning.proofs.Means.{stands-at, at-stands}
-use Rattle.meaning.proofs.Bits.{bit-of-zero, set-bit}
+use Rattle.meaning.proofs.Bits.{bit-lt, bit-of-zero, bit-or, bit-and, bit-not, set-bit}
 use Rattle.meaning.proofs.Circles.{round-again}
 use Rattle.meaning.proofs.Owners.{ownerIn, viaLink, nextIn}
 
@@ -129,11 +129,47 @@ pub no-circle : (next : ℕ → Option ℕ) (end : ℕ → ℕ) (u : ℕ) → ((
 unfolding after
 no-circle next end u off n = back-never next end u 0 u refl (λ k h. absurd (omega arith)) off n
 
--- ---- nodes that are seen to lie on no circle
+-- ---- sets of nodes, a bit for each node
 
--- node u is one of a set, a bit for each node
+-- node u is one of a set
 abbrev pub among : ℕ → ℕ → Bool
 among nodes u = eqb (bit nodes u) 1
+
+pub in-none : (u : ℕ) → among 0 u ≡ true → ⊥
+in-none u e = true≢false (sym e ∙ ap (λ (d : ℕ). eqb d 1) (bit-of-zero u))
+
+-- the set of all 16
+pub in-all : (u : ℕ) → u < 16 → among 65535 u ≡ true
+in-all u h = eq-eqb (bit 65535 u) 1 (bit-not 16 0 u (omega arith) h ∙ ap (λ (x : ℕ). 1 - x) (bit-of-zero u))
+
+module _ (a b u : ℕ) where
+  pub in-either : among a u ≡ true → among (bitOr a b) u ≡ true
+  in-either e = eq-eqb (bit (bitOr a b) u) 1 (omega (arith, bit-or a b u, bit-lt b u, eqb-true (bit a u) 1 e))
+
+  pub in-both : among a u ≡ true → among b u ≡ true → among (bitAnd a b) u ≡ true
+  in-both e f = eq-eqb (bit (bitAnd a b) u) 1 (omega (arith, bit-and a b u, eqb-true (bit a u) 1 e, eqb-true (bit b u) 1 f))
+
+-- node u alone, as a shift in a word of 16 bits leaves it
+alone : (u : ℕ) → u < 16 → 1 * 2 ^ u % 65536 ≡ 2 ^ u
+alone u h = ap (λ (x : ℕ). x % 65536) (one-mul (2 ^ u)) ∙ mod-eq-of-lt (pow-lt {j = 16} h)
+
+pub in-alone : (u : ℕ) → u < 16 → among (1 * 2 ^ u % 65536) u ≡ true
+in-alone u h = rw (alone u h) (set-bit 0 u u ∙ ap₂ _||_ (ap (λ (d : ℕ). eqb d 1) (bit-of-zero u)) (eq-eqb u u refl))
+
+-- node u joins the set
+module _ (nodes u : ℕ) (h : u < 16) where
+  pub in-new : among (bitOr nodes (1 * 2 ^ u % 65536)) u ≡ true
+  in-new = rw or-comm (in-either (1 * 2 ^ u % 65536) nodes u (in-alone u h))
+
+  pub in-old : (x : ℕ) → among (bitOr nodes (1 * 2 ^ u % 65536)) x ≡ true → (among nodes x ≡ true) ⊎ (u ≡ x)
+  in-old x e = go (among nodes x) refl (ℕ-discrete u x) (rw (alone u h) at e)
+    where
+      go : (t : Bool) → among nodes x ≡ t → Dec (u ≡ x) → among (bitOr nodes (2 ^ u)) x ≡ true → (among nodes x ≡ true) ⊎ (u ≡ x)
+      go true f d e = inl f
+      go false f (yes q) e = inr q
+      go false f (no q) e = absurd (true≢false (sym e ∙ set-bit nodes u x ∙ ap₂ _||_ f (ne-eqb u x q)))
+
+-- ---- nodes that are seen to lie on no circle
 
 -- none of these nodes lies on a circle
 pub record Off (next : ℕ → Option ℕ) (end : ℕ → ℕ) (n nodes : ℕ) : Type 0 where
@@ -142,9 +178,6 @@ pub record Off (next : ℕ → Option ℕ) (end : ℕ → ℕ) (n nodes : ℕ) :
 -- each of these nodes lies on no circle, or leads to u
 pub record Trail (next : ℕ → Option ℕ) (end : ℕ → ℕ) (n nodes u : ℕ) : Type 0 where
   pub leads : (x : ℕ) → among nodes x ≡ true → (onCircle next end n x ≡ false) ⊎ Reaches next end x u
-
-pub nobody : (next : ℕ → Option ℕ) (end : ℕ → ℕ) (n : ℕ) → Off next end n 0
-nobody next end n = record { none-on = λ x e. absurd (true≢false (sym e ∙ ap (λ (d : ℕ). eqb d 1) (bit-of-zero x))) }
 
 module _ (next : ℕ → Option ℕ) (end : ℕ → ℕ) (n : ℕ) where
   -- what leads to a node on no circle lies on none itself
@@ -163,18 +196,10 @@ module _ (next : ℕ → Option ℕ) (end : ℕ → ℕ) (n : ℕ) where
     pub trail-start : Off next end n nodes → Trail next end n nodes u
     trail-start F = record { leads = λ x e. inl (F .none-on x e) }
 
-    -- u joins them, its bit set in a word of 16
+    -- u joins them
     pub trail-here : u < 16 → Trail next end n nodes u → Trail next end n (bitOr nodes (1 * 2 ^ u % 65536)) u
     unfolding after
-    trail-here h T = rw one (record { leads = λ x e. go x (among nodes x) refl (ℕ-discrete u x) e })
-      where
-        one : 1 * 2 ^ u % 65536 ≡ 2 ^ u
-        one = ap (λ (x : ℕ). x % 65536) (one-mul (2 ^ u)) ∙ mod-eq-of-lt (pow-lt {j = 16} h)
-
-        go : (x : ℕ) (t : Bool) → among nodes x ≡ t → Dec (u ≡ x) → among (bitOr nodes (2 ^ u)) x ≡ true → (onCircle next end n x ≡ false) ⊎ Reaches next end x u
-        go x true f d e = T .leads x f
-        go x false f (yes q) e = inr (0, ap at (sym q))
-        go x false f (no q) e = absurd (true≢false (sym e ∙ set-bit nodes u x ∙ ap₂ _||_ f (ne-eqb u x q)))
+    trail-here h T = record { leads = λ x e. ⊎-elim (T .leads x) (λ (q : u ≡ x). inr (0, ap at (sym q))) (in-old nodes u h x e) }
 
     pub trail-on : Trail next end n nodes u → (w : ℕ) → move next end (at u) ≡ at w → Trail next end n nodes w
     trail-on T w m = record { leads = λ x e. ⊎-elim inl (λ r. inr (r .0 + 1, step-to next end x (r .0) u (r .1) w m)) (T .leads x e) }

@@ -5,23 +5,37 @@ use Prim.Native.Nat.{_-_, _≤_, _<_}
 use native.Mathlib.Omega.{arith}
 use borrow.Author.Count.{below-more}
 use Rattle.meaning.proofs.ByPlace.{NotCome, small-atom, ends-of, reach-none, reach-is}
+use Rattle.hall.proofs.Leads.{together, no-reach}
 use Rattle.hall.proofs.ask.find_reach.Statement.{statement}
 use Rattle.hall.proofs.ask.find_reach.Tie as tie
 
 abbrev Inv-loop : tie.InvT-loop
-Inv-loop h link rule cut number label owner v w atoms p₀ p = (p ≤ atoms) × NotCome link number owner (h .nodes) v w p
+Inv-loop h link rule cut number label owner v w atoms to p₀ p = (p ≤ atoms) × NotCome link number owner (h .nodes) v w p
 
 abbrev μ-loop : tie.MeasureT-loop
-μ-loop h link rule cut number label owner v w atoms p₀ p = atoms - p
+μ-loop h link rule cut number label owner v w atoms to p₀ p = atoms - p
 
 cast-atoms : tie.Need-cast-atoms Inv-loop μ-loop
 cast-atoms c = search needs
+
+toward-walks-requires : tie.Need-toward-walks-requires Inv-loop μ-loop
+toward-walks-requires c κs = search needs
+
+shr-if1 : tie.Need-shr-if1 Inv-loop μ-loop
+shr-if1 c =
+    let s = c .before .before in
+    omega (arith, s .pre .1, s .pre .0 .sound .small)
+
+returns : tie.Need-returns Inv-loop μ-loop
+returns c =
+    let s = c .before .before .before in
+    sym (no-reach _ _ _ (s .pre .0) _ _ _ (c .before .toward-walks .ensures) (omega (arith, s .pre .1, s .pre .0 .sound .small)) (c .if1 .taken))
 
 loop-holds : tie.Need-loop-holds Inv-loop μ-loop
 loop-holds c = (omega arith, λ q l. absurd (omega arith))
 
 atom-at-requires : tie.Need-atom-at-requires Inv-loop μ-loop
-atom-at-requires c κs = omega (arith, c .before .before .before .pre .0 .sound .cuts .room)
+atom-at-requires c κs = omega (arith, c .before .before .before .before .before .pre .0 .sound .cuts .room)
 
 cast-atom : tie.Need-cast-atom Inv-loop μ-loop
 cast-atom c = search needs
@@ -29,21 +43,21 @@ cast-atom c = search needs
 comes-to-requires : tie.Need-comes-to-requires Inv-loop μ-loop
 comes-to-requires c κs =
     let s = c .before .before .before .before .before in
-    let W = s .pre .0 in
+    let W = s .before .before .pre .0 in
     let q : c .before .atom-at .result .0 < 512 = rw (c .before .atom-at .ensures) (small-atom _ _ _ W _ (omega arith)) in
-    (q, omega (arith, s .pre .1, W .sound .small), W .sound .small, ends-of _ _ _ W)
+    (q, omega (arith, s .before .before .pre .1, W .sound .small), W .sound .small, ends-of _ _ _ W, s .toward-walks .ensures .each _ (together _ _ _ W) _ q)
 
-mul-t17 : tie.Need-mul-t17 Inv-loop μ-loop
-mul-t17 c = search needs
+mul-t22 : tie.Need-mul-t22 Inv-loop μ-loop
+mul-t22 c = search needs
 
-element-copy-out-t20 : tie.Need-element-copy-out-t20 Inv-loop μ-loop
-element-copy-out-t20 c = search needs
+element-copy-out-t25 : tie.Need-element-copy-out-t25 Inv-loop μ-loop
+element-copy-out-t25 c = search needs
 
-returns : tie.Need-returns Inv-loop μ-loop
-returns c =
+returns-2 : tie.Need-returns-2 Inv-loop μ-loop
+returns-2 c =
     let l = c .before .before .before .before .before .before in
     let q = rw (c .before .before .before .before .atom-at .ensures) at (c .before .before .comes-to .ensures) in
-    sym (reach-is _ _ _ (l .before .before .pre .0) _ _ _ (omega arith) (l .loop .inv .1) (sym q ∙ c .before .if1 .taken))
+    sym (reach-is _ _ _ (l .before .before .before .before .pre .0) _ _ _ (omega arith) (l .loop .inv .1) (sym q ∙ c .before .if2 .taken))
 
 add-p : tie.Need-add-p Inv-loop μ-loop
 add-p c = search needs
@@ -55,12 +69,12 @@ loop-again : tie.Need-loop-again Inv-loop μ-loop
 loop-again c =
     let l = c .before .before .before .before .before in
     let q = rw (c .before .before .before .atom-at .ensures) at (c .before .comes-to .ensures) in
-    (omega arith, below-more _ _ (l .loop .inv .1) (sym q ∙ c .if1 .left))
+    (omega arith, below-more _ _ (l .loop .inv .1) (sym q ∙ c .if2 .left))
 
-returns-2 : tie.Need-returns-2 Inv-loop μ-loop
-returns-2 c =
+returns-3 : tie.Need-returns-3 Inv-loop μ-loop
+returns-3 c =
     let l = c .before in
-    sym (reach-none _ _ _ (l .before .before .pre .0) _ _ (λ q h. l .loop .inv .1 q (omega arith)))
+    sym (reach-none _ _ _ (l .before .before .before .before .pre .0) _ _ (λ q h. l .loop .inv .1 q (omega arith)))
 
 pub find-reach-spec : {M : Type 1} → statement M
 find-reach-spec =
@@ -69,14 +83,17 @@ find-reach-spec =
     Inv-loop
     μ-loop
     cast-atoms
+    toward-walks-requires
+    shr-if1
+    returns
     loop-holds
     atom-at-requires
     cast-atom
     comes-to-requires
-    mul-t17
-    element-copy-out-t20
-    returns
+    mul-t22
+    element-copy-out-t25
+    returns-2
     add-p
     loop-less
     loop-again
-    returns-2)
+    returns-3)
