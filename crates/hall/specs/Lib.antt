@@ -5,4 +5,5 @@ pub mod Rows
 pub mod Sweep
 pub mod Moves
 pub mod Tallied
+pub mod Standing
 pub mod Questions

@@ -5,6 +5,7 @@ mod label;
 mod link;
 mod rule;
 mod run;
+mod stand;
 mod step;
 mod update;
 mod walk;

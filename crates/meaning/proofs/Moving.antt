@@ -5,12 +5,10 @@ use mathlib.Core.Bool.{Bool, true, false, _||_, true≢false}
 use mathlib.Core.List.{List}
 use mathlib.Core.Option.{Option, none, some}
 use Prim.Native.Nat.{ℕ, suc, _+_, _*_, _/_, _%_, _^_, _≤_, _<_}
-use native.Mathlib.Nat.{mod-eq-of-lt, one-mul}
 use native.Mathlib.Decide.{ℕ-discrete}
 use native.Mathlib.Numerals.{add-one}
 use native.Mathlib.Omega.{arith}
 use borrow.Author.Count.{below-more}
-use lib.Pow.{pow-lt}
 use lib.Bits.{bitOr}
 use lib.Dec.{ltb, eqb}
 use borrow.Author.Tests.{lt-ltb, le-ltb, eq-eqb, ne-eqb}
@@ -22,7 +20,7 @@ use Rattle.meaning.proofs.Places.{le-or-lt}
 use Rattle.meaning.proofs.Members.{any-true, any-some}
 use Rattle.meaning.proofs.Idle.{any-off}
 use Rattle.meaning.proofs.Means.{stands-at, at-stands}
-use Rattle.meaning.proofs.Bits.{bit-of-zero, set-bit}
+use Rattle.meaning.proofs.Bits.{bit-of-zero, set-bit, mask-node}
 use Rattle.meaning.proofs.Circles.{round-again}
 use Rattle.meaning.proofs.Owners.{ownerIn, viaLink, nextIn}
 
@@ -166,11 +164,8 @@ module _ (next : ℕ → Option ℕ) (end : ℕ → ℕ) (n : ℕ) where
     -- u joins them, its bit set in a word of 16
     pub trail-here : u < 16 → Trail next end n nodes u → Trail next end n (bitOr nodes (1 * 2 ^ u % 65536)) u
     unfolding after
-    trail-here h T = rw one (record { leads = λ x e. go x (among nodes x) refl (ℕ-discrete u x) e })
+    trail-here h T = rw (mask-node u h) (record { leads = λ x e. go x (among nodes x) refl (ℕ-discrete u x) e })
       where
-        one : 1 * 2 ^ u % 65536 ≡ 2 ^ u
-        one = ap (λ (x : ℕ). x % 65536) (one-mul (2 ^ u)) ∙ mod-eq-of-lt (pow-lt {j = 16} h)
-
         go : (x : ℕ) (t : Bool) → among nodes x ≡ t → Dec (u ≡ x) → among (bitOr nodes (2 ^ u)) x ≡ true → (onCircle next end n x ≡ false) ⊎ Reaches next end x u
         go x true f d e = T .leads x f
         go x false f (yes q) e = inr (0, ap at (sym q))
