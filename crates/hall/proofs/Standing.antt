@@ -14,19 +14,23 @@ use lib.ListN.{length, getD, set, length-set, length-replicate, getD-replicate}
 use lib.Seq.{getD-set-same, getD-set-other}
 use borrow.Author.Tests.{eq-eqb, ne-eqb, eqb-true, lt-ltb, le-ltb}
 use Rattle.meaning.specs.Search.{anyBelow}
-use Rattle.meaning.specs.Hall.{zeroes}
+use Rattle.meaning.specs.Hall.{zeroes, State}
 use Rattle.meaning.specs.Labels.{bit, on}
 use Rattle.meaning.specs.Walk.{at, move, after, fateIn}
 use Rattle.meaning.specs.Questions.{isOut, isLost}
 use Rattle.meaning.proofs.Exchange.{eqb-comm}
-use Rattle.meaning.proofs.Owners.{nextIn, endIn, Words}
+use Rattle.meaning.proofs.Owners.{nextIn, endIn, Words, Whole}
 use Rattle.meaning.proofs.Walks.{after-suc, going-down}
 use Rattle.meaning.proofs.Idle.{any-off}
 use Rattle.meaning.proofs.Moving.{among, step-to}
-use Rattle.meaning.proofs.Carried.{sourceIn, Carries, Reached, Within, leavesBy, goesOn, lostAt, moved-by, moves-on, out-is, lost-is}
+use Rattle.meaning.proofs.Carried.{sourceIn, Carries, Reached, Within, leavesBy, goesOn, lostAt, moved-by, moves-on, carries-of, out-is, lost-is}
 use Rattle.meaning.proofs.Members.{and-both}
 use Rattle.meaning.proofs.Bits.{bit-of-zero, set-bit, mask-node, or-bits, and-bits, without-bits, all-bits, or-none, xor-none}
 use Rattle.hall.specs.Standing.{Declared, Filled, Joined, TakenAway, Kept, Took, SettledBut, Along, Round, Spread, Outward, Stayed, Gathered, Divided}
+
+-- a box in order has links that start at nodes
+pub declared-of : {m : State} {label owner : List ℕ} → Whole m label owner → Declared (m .link) (m .links)
+declared-of {m} {label} {owner} W = record { few = W .sound .few; source = carries-of m label owner W .source }
 
 -- ---- a row written word by word
 
