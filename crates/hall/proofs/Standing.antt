@@ -438,8 +438,8 @@ module _ {link label : List ℕ} {links v : ℕ} {b : List ℕ} {from i : ℕ} (
   pub waves-done : Waves link label links v b from i → from ≡ 0 → Spread link label links v b
   waves-done W z = record { size = W .size; reached = W .reached; within = λ owner nodes C. within-all C hv i (W .within owner nodes C) (rw z at (W .settled)) }
 
-  -- 16 rounds, and more than 16 moves are not asked for
-  pub waves-end : Waves link label links v b from i → i ≡ 16 → Spread link label links v b
+  -- 15 rounds: each node that a walk stands at after fewer than 16 moves has the atom
+  pub waves-end : Waves link label links v b from i → i ≡ 15 → Spread link label links v b
   waves-end W e = record { size = W .size; reached = W .reached; within = λ owner nodes C. record { stood = λ j k w hj. W .within owner nodes C .stood j k w (omega arith) } }
 
 -- ---- the atoms that leave

@@ -72,12 +72,13 @@ fn spread_along(
     requires { ⌜ (l < 64) × (sourceIn (now link) l < 16) × (length (now stand) ≡ 144) ⌝ }
     ensures { λ more. ⌜ Along (now (link .entry)) (now (label .entry)) l from (now (stand .entry)) (now (stand .exit)) more ⌝ }
 {
-    let end = link[l] % 1024;
-    if 15 < end {
+    let word = link[l];
+    let s = crate::link::source_of(word);
+    if (from >> s) % 2 == 0 {
         return 0;
     }
-    let s = crate::link::source_of(link[l]);
-    if (from >> s) % 2 == 0 {
+    let end = word % 1024;
+    if 15 < end {
         return 0;
     }
     if join_row(label, l, stand, s, end as usize) == 0 {
@@ -110,7 +111,8 @@ fn spread_once(
     next
 }
 
-// The atoms that stand at each node at some time of their walks from node v.
+// The atoms that stand at each node at some time of their walks from node v. Among 16 nodes no walk comes to a new node after 15 moves,
+// so 15 rounds are enough.
 fn spread(link: &[u16; 64], label: &[u64; 512], links: usize, stand: &mut [u64; 144], v: usize)
     requires { ⌜ Declared (now link) links × (v < 16) × (now stand ≡ zeroes 144) ⌝ }
     ensures { λ r. ⌜ Spread (now (link .entry)) (now (label .entry)) links v (now (stand .exit)) ⌝ }
@@ -118,7 +120,7 @@ fn spread(link: &[u16; 64], label: &[u64; 512], links: usize, stand: &mut [u64; 
     fill_row(stand, v);
     let mut from: u16 = 1u16 << v;
     let mut i: usize = 0;
-    while i < 16 {
+    while i < 15 {
         from = spread_once(link, label, links, stand, from);
         if from == 0 {
             return;

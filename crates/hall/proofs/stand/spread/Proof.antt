@@ -7,10 +7,10 @@ use Rattle.hall.proofs.stand.spread.Statement.{statement}
 use Rattle.hall.proofs.stand.spread.Tie as tie
 
 abbrev Inv-loop : tie.InvT-loop
-Inv-loop link label links stand₀ v from₀ i₀ stand from i = (i ≤ 16) × Waves link label links v stand from i
+Inv-loop link label links stand₀ v from₀ i₀ stand from i = (i ≤ 15) × Waves link label links v stand from i
 
 abbrev μ-loop : tie.MeasureT-loop
-μ-loop link label links stand₀ v from₀ i₀ stand from i = 16 - i
+μ-loop link label links stand₀ v from₀ i₀ stand from i = 15 - i
 
 fill-row-requires : tie.Need-fill-row-requires Inv-loop μ-loop
 fill-row-requires c κs = search needs

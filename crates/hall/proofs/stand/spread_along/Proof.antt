@@ -1,4 +1,4 @@
--- `stand::spread_along` meets its contract. Assumes nothing.
+-- `stand::spread_along` meets its contract: it does nothing, adds nothing, or lets one row grow. Assumes nothing.
 use mathlib.Core.Path.{refl}
 use native.Mathlib.Omega.{arith}
 use Rattle.meaning.proofs.Owners.{endIn}
@@ -7,72 +7,61 @@ use borrow.Author.Needs.{needs}
 use Rattle.hall.proofs.stand.spread_along.Statement.{statement}
 use Rattle.hall.proofs.stand.spread_along.Tie as tie
 
-mul-end : tie.Need-mul-end
-mul-end c = search needs
+mul-word : tie.Need-mul-word
+mul-word c = search needs
 
-element-copy-out-end : tie.Need-element-copy-out-end
-element-copy-out-end c = search needs
-
-returns : tie.Need-returns
-unfolding endIn
-returns c = along-none _ _ _ _ _ (c .before .before .pre .2) (λ h g. omega (arith, h))
-
-mul-source-of : tie.Need-mul-source-of
-mul-source-of c = search needs
-
-element-copy-out-source-of : tie.Need-element-copy-out-source-of
-element-copy-out-source-of c = search needs
+element-copy-out-word : tie.Need-element-copy-out-word
+element-copy-out-word c = search needs
 
 source-of-requires : tie.Need-source-of-requires
 source-of-requires c κs = search needs
 
-cast-if2 : tie.Need-cast-if2
-cast-if2 c = search needs
+cast-if1 : tie.Need-cast-if1
+cast-if1 c = search needs
 
-shr-if2 : tie.Need-shr-if2
-shr-if2 c = search needs
+shr-if1 : tie.Need-shr-if1
+shr-if1 c = search needs
+
+returns : tie.Need-returns
+returns c = along-none _ _ _ _ _ (c .before .before .before .pre .2) (λ h g. away _ _ _ (c .before .source-of .ensures .0) (c .if1 .taken) g)
 
 returns-2 : tie.Need-returns-2
 unfolding endIn
-returns-2 c =
-    let p = c .before .before .before .before .before .pre in
-    along-none _ _ _ _ _ (p .2) (λ h g. away _ _ _ (c .before .source-of .ensures .0) (c .if2 .taken) g)
+returns-2 c = along-none _ _ _ _ _ (c .before .before .before .before .pre .2) (λ h g. omega (arith, h, c .if2 .taken))
 
 cast-join-row : tie.Need-cast-join-row
 cast-join-row c = search needs
 
 join-row-requires : tie.Need-join-row-requires
 join-row-requires c κs =
-    let p = c .before .before .before .before .before .before .pre in
-    (p .0, rw (c .before .before .source-of .ensures .0) (p .1), omega arith, p .2)
+    let p = c .before .before .before .before .before .pre in
+    (p .0, rw (c .before .before .before .source-of .ensures .0) (p .1), omega (arith, c .before .if2 .left), p .2)
 
 returns-3 : tie.Need-returns-3
 unfolding endIn
 returns-3 c =
-    let s = c .before .before .before .before in
-    along-still (c .before .join-row .ensures) (s .source-of .ensures .0) refl (omega (arith, s .before .before .if1 .left)) (c .if3 .taken)
+    let t = c .before .before .before in
+    along-still (c .before .join-row .ensures) (t .before .before .source-of .ensures .0) refl (omega (arith, t .if2 .left)) (c .if3 .taken)
 
 shl-result : tie.Need-shl-result
-shl-result c = omega (arith, c .before .before .before .before .before .before .if1 .left)
+shl-result c = omega (arith, c .before .before .before .if2 .left)
 
 returns-4 : tie.Need-returns-4
 unfolding endIn
 returns-4 c =
-    let s = c .before .before .before .before in
-    along-new (c .before .join-row .ensures) (s .source-of .ensures .0) refl (omega (arith, s .before .before .if1 .left))
+    let t = c .before .before .before in
+    along-new (c .before .join-row .ensures) (t .before .before .source-of .ensures .0) refl (omega (arith, t .if2 .left))
 
 pub spread-along-spec : {M : Type 1} → statement M
 spread-along-spec =
     tie.close
     (tie.spec
-    mul-end
-    element-copy-out-end
-    returns
-    mul-source-of
-    element-copy-out-source-of
+    mul-word
+    element-copy-out-word
     source-of-requires
-    cast-if2
-    shr-if2
+    cast-if1
+    shr-if1
+    returns
     returns-2
     cast-join-row
     join-row-requires
