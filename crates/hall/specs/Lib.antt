@@ -6,4 +6,5 @@ pub mod Sweep
 pub mod Moves
 pub mod Leads
 pub mod Tallied
+pub mod Standing
 pub mod Questions

@@ -6,7 +6,8 @@ use meaning::Fate;
 use meaning::Hall;
 ghost use mathlib.Core.Path.{_≡_};
 ghost use Prim.Native.Nat.{ℕ, _+_, _-_, _<_, _≤_};
-ghost use Rattle.meaning.specs.Questions.{fateOf, byAddress};
+ghost use Rattle.meaning.specs.Questions.{fateOf, isOut, isLost, byAddress};
+ghost use Rattle.meaning.specs.declared.Fate.{Fate as Went};
 ghost use Rattle.meaning.specs.Box.{stateOf};
 ghost use Rattle.meaning.specs.declared.Record.the-variants.{Loop as askLoop, Reach as askReach, Tally as askTally};
 ghost use Rattle.meaning.specs.Hall.{top};
@@ -116,27 +117,29 @@ struct Counts {
     round: u64,
 }
 
-// A packet of this fate, for so many addresses more.
-fn counted(c: Counts, f: Fate, width: u64) -> Counts
+// A packet that goes out, is lost, or else goes round, for so many addresses more.
+fn counted(c: Counts, out: bool, lost: bool, width: u64) -> Counts
     requires { ⌜ (c .out + width ≤ top) × (c .lost + width ≤ top) × (c .round + width ≤ top) ⌝ }
-    ensures { λ r. ⌜ Counted c f width r ⌝ }
+    ensures { λ r. ⌜ ((f : Went) → isOut f ≡ out → isLost f ≡ lost → Counted c f width r) ⌝ }
 {
-    match f {
-        Fate::Out(_, _) => Counts {
+    if out {
+        return Counts {
             out: c.out + width,
             lost: c.lost,
             round: c.round,
-        },
-        Fate::Lost(_, _) => Counts {
+        };
+    }
+    if lost {
+        return Counts {
             out: c.out,
             lost: c.lost + width,
             round: c.round,
-        },
-        Fate::Round => Counts {
-            out: c.out,
-            lost: c.lost,
-            round: c.round + width,
-        },
+        };
+    }
+    Counts {
+        out: c.out,
+        lost: c.lost,
+        round: c.round + width,
     }
 }
 
@@ -155,17 +158,19 @@ pub fn count_fates(
     requires { ⌜ v < h .nodes ⌝ }
     ensures { λ r. ⌜ r ≡ byAddress (stateOf h (now (link .entry)) (now (rule .entry)) (now (cut .entry)) (now (number .entry))) (askTally v) ⌝ }
 {
-    let atoms = h.atoms as usize;
+    let mut stand = [0u64; 144];
+    crate::stand::divide(link, label, h.links as usize, &mut stand, v as usize);
     let mut c = Counts {
         out: 0,
         lost: 0,
         round: 0,
     };
     let mut p: usize = 0;
-    while p < atoms {
+    while p < h.atoms as usize {
         let atom = crate::atom::atom_at(number, Place(p)).0 as usize;
-        let f = crate::walk::follow(link, owner, atom, h.nodes, v);
-        c = counted(c, f, cut[p + 1] - cut[p]);
+        let out = crate::stand::in_row(&stand, 16, atom);
+        let lost = crate::stand::in_row(&stand, 17, atom);
+        c = counted(c, out, lost, cut[p + 1] - cut[p]);
         p += 1;
     }
     Answer::Tally(c.out, c.lost, c.round)

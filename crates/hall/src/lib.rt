@@ -5,6 +5,7 @@ mod label;
 mod lead;
 mod link;
 mod rule;
+mod stand;
 mod step;
 mod update;
 mod walk;

@@ -7,7 +7,7 @@ use native.Mathlib.Omega.{arith}
 use lib.Dec.{eqb, eqb·zero-suc, eqb·suc-zero, eqb·suc-suc}
 use lib.Arith.{lt-one}
 use lib.Pow.{pow-lt}
-use lib.Bits.{bitOr, bitAnd, or-step, and-step, or-shr, and-shr}
+use lib.Bits.{bitOr, bitAnd, bitXor, or-step, and-step, or-shr, and-shr, or-add-and, xor-add-and, and-le-l, and-le-r}
 use Rattle.meaning.specs.Search.{pick}
 use Rattle.meaning.specs.Labels.{bit}
 use Rattle.meaning.proofs.Members.{bit-zero, bit-suc}
@@ -95,6 +95,40 @@ bit-power (suc b) (suc j) =
     let half : 2 ^ suc b / 2 ≡ 2 ^ b = omega (arith, pow-suc 2 b) in
     bit-suc (2 ^ suc b) j ∙ ap (λ (x : ℕ). bit x j) half ∙ bit-power b j ∙ ap digitOf (sym (eqb·suc-suc b j))
 
+-- ---- two words, bit by bit
+
+both-digit : (d : ℕ) (q : Bool) → d < 2 → eqb (min d (digitOf q)) 1 ≡ eqb d 1 && q
+both-digit zero true h = refl
+both-digit zero false h = refl
+both-digit (suc zero) true h = refl
+both-digit (suc zero) false h = refl
+both-digit (suc (suc d)) q h = absurd (not-suc-le-zero (le-of-suc-le-suc (le-of-suc-le-suc h)))
+
+pub or-bits : (a b j : ℕ) → eqb (bit (bitOr a b) j) 1 ≡ eqb (bit a j) 1 || eqb (bit b j) 1
+or-bits a b j =
+    ap (λ (x : ℕ). eqb x 1) (bit-or a b j ∙ ap (max (bit a j)) (sym (digit (bit b j) (bit-lt b j)))) ∙ or-digit (bit a j) (eqb (bit b j) 1) (bit-lt a j)
+
+pub and-bits : (a b j : ℕ) → eqb (bit (bitAnd a b) j) 1 ≡ eqb (bit a j) 1 && eqb (bit b j) 1
+and-bits a b j =
+    ap (λ (x : ℕ). eqb x 1) (bit-and a b j ∙ ap (min (bit a j)) (sym (digit (bit b j) (bit-lt b j)))) ∙ both-digit (bit a j) (eqb (bit b j) 1) (bit-lt a j)
+
+pub without-bits : (a b j : ℕ) → b < 2 ^ 64 → j < 64 → eqb (bit (bitAnd a (2 ^ 64 - 1 - b)) j) 1 ≡ eqb (bit a j) 1 && not (eqb (bit b j) 1)
+without-bits a b j hb hj =
+    ap (λ (x : ℕ). eqb x 1)
+    (bit-and a (2 ^ 64 - 1 - b) j ∙ ap (min (bit a j)) (bit-not 64 b j hb hj ∙ ap (λ (x : ℕ). 1 - x) (sym (digit (bit b j) (bit-lt b j)))))
+    ∙ and-digit (bit a j) (eqb (bit b j) 1) (bit-lt a j)
+
+-- the word of all ones has every bit
+pub all-bits : (j : ℕ) → j < 64 → eqb (bit 18446744073709551615 j) 1 ≡ true
+all-bits j h = ap (λ (x : ℕ). eqb x 1) (bit-not 64 0 j (omega arith) h ∙ ap (λ (x : ℕ). 1 - x) (bit-of-zero j))
+
+-- two words that join to none are none, and two that differ nowhere are one
+pub or-none : (a b : ℕ) → bitOr a b ≡ 0 → (a ≡ 0) × (b ≡ 0)
+or-none a b e = (omega (arith, or-add-and a b, and-le-r a b), omega (arith, or-add-and a b, and-le-l a b))
+
+pub xor-none : (a b : ℕ) → bitXor a b ≡ 0 → a ≡ b
+xor-none a b e = omega (arith, xor-add-and a b, and-le-l a b, and-le-r a b)
+
 -- ---- one bit set, and one cleared
 
 pub set-bit : (w b j : ℕ) → eqb (bit (bitOr w (2 ^ b)) j) 1 ≡ eqb (bit w j) 1 || eqb b j
@@ -105,6 +139,10 @@ pub clear-bit : (w b j : ℕ) → b < 64 → j < 64 → eqb (bit (bitAnd w (2 ^ 
 clear-bit w b j hb hj =
     ap (λ (x : ℕ). eqb x 1) (bit-and w (2 ^ 64 - 1 - 2 ^ b) j ∙ ap (min (bit w j)) (bit-not 64 (2 ^ b) j (pow-lt hb) hj ∙ ap (λ (x : ℕ). 1 - x) (bit-power b j)))
     ∙ and-digit (bit w j) (eqb b j) (bit-lt w j)
+
+-- `1 << u` at 16 bits
+pub mask-node : (u : ℕ) → u < 16 → 1 * 2 ^ u % 65536 ≡ 2 ^ u
+mask-node u h = ap (λ (x : ℕ). x % 65536) (one-mul (2 ^ u)) ∙ mod-eq-of-lt (pow-lt {j = 16} h)
 
 -- `1 << (k % 64)` at 64 bits: no side condition, so `rw mask` closes what a shift leaves
 pub mask : (k : ℕ) → 1 * 2 ^ (k % 64) % 2 ^ 64 ≡ 2 ^ (k % 64)

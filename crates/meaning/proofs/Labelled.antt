@@ -124,7 +124,7 @@ module _ (m : State) (S : Sound m) where
           let f = fit m S v a w (x .fits) in
           record { rule = w; within = x .within; alive = f .alive; here = f .here; word = refl }
 
-  won : (owner : List ℕ) → Owned m owner → (k v : ℕ) → k < 512 → v < 16 → (ownerIn owner k v ≡ 0 → ⊥) → Won m v (ownerIn owner k v)
+  pub won : (owner : List ℕ) → Owned m owner → (k v : ℕ) → k < 512 → v < 16 → (ownerIn owner k v ≡ 0 → ⊥) → Won m v (ownerIn owner k v)
   won owner O k v hk hv n = go (decLt k (m .atoms))
     where
       go : Dec (k < m .atoms) → Won m v (ownerIn owner k v)

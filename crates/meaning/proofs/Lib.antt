@@ -59,6 +59,7 @@ pub mod LabelWords
 pub mod Idle
 pub mod Numbered
 pub mod Labelled
+pub mod Carried
 pub mod Reading
 pub mod Splitting
 pub mod OneRule

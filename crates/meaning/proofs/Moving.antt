@@ -5,12 +5,10 @@ use mathlib.Core.Bool.{Bool, true, false, _||_, true≢false}
 use mathlib.Core.List.{List}
 use mathlib.Core.Option.{Option, none, some}
 use Prim.Native.Nat.{ℕ, suc, _+_, _-_, _*_, _/_, _%_, _^_, _≤_, _<_}
-use native.Mathlib.Nat.{mod-eq-of-lt, one-mul}
 use native.Mathlib.Decide.{ℕ-discrete}
 use native.Mathlib.Numerals.{add-one}
 use native.Mathlib.Omega.{arith}
 use borrow.Author.Count.{below-more}
-use lib.Pow.{pow-lt}
 use lib.Bits.{bitOr, bitAnd, or-comm}
 use lib.Dec.{ltb, eqb}
 use borrow.Author.Tests.{lt-ltb, le-ltb, eq-eqb, ne-eqb, eqb-true}
@@ -22,7 +20,7 @@ use Rattle.meaning.proofs.Places.{le-or-lt}
 use Rattle.meaning.proofs.Members.{any-true, any-some}
 use Rattle.meaning.proofs.Idle.{any-off}
 use Rattle.meaning.proofs.Means.{stands-at, at-stands}
-use Rattle.meaning.proofs.Bits.{bit-lt, bit-of-zero, bit-or, bit-and, bit-not, set-bit}
+use Rattle.meaning.proofs.Bits.{bit-lt, bit-of-zero, bit-or, bit-and, bit-not, set-bit, mask-node}
 use Rattle.meaning.proofs.Circles.{round-again}
 use Rattle.meaning.proofs.Owners.{ownerIn, viaLink, nextIn}
 
@@ -149,12 +147,9 @@ module _ (a b u : ℕ) where
   pub in-both : among a u ≡ true → among b u ≡ true → among (bitAnd a b) u ≡ true
   in-both e f = eq-eqb (bit (bitAnd a b) u) 1 (omega (arith, bit-and a b u, eqb-true (bit a u) 1 e, eqb-true (bit b u) 1 f))
 
--- node u alone, as a shift in a word of 16 bits leaves it
-alone : (u : ℕ) → u < 16 → 1 * 2 ^ u % 65536 ≡ 2 ^ u
-alone u h = ap (λ (x : ℕ). x % 65536) (one-mul (2 ^ u)) ∙ mod-eq-of-lt (pow-lt {j = 16} h)
-
+-- node u alone
 pub in-alone : (u : ℕ) → u < 16 → among (1 * 2 ^ u % 65536) u ≡ true
-in-alone u h = rw (alone u h) (set-bit 0 u u ∙ ap₂ _||_ (ap (λ (d : ℕ). eqb d 1) (bit-of-zero u)) (eq-eqb u u refl))
+in-alone u h = rw (mask-node u h) (set-bit 0 u u ∙ ap₂ _||_ (ap (λ (d : ℕ). eqb d 1) (bit-of-zero u)) (eq-eqb u u refl))
 
 -- node u joins the set
 module _ (nodes u : ℕ) (h : u < 16) where
@@ -162,7 +157,7 @@ module _ (nodes u : ℕ) (h : u < 16) where
   in-new = rw or-comm (in-either (1 * 2 ^ u % 65536) nodes u (in-alone u h))
 
   pub in-old : (x : ℕ) → among (bitOr nodes (1 * 2 ^ u % 65536)) x ≡ true → (among nodes x ≡ true) ⊎ (u ≡ x)
-  in-old x e = go (among nodes x) refl (ℕ-discrete u x) (rw (alone u h) at e)
+  in-old x e = go (among nodes x) refl (ℕ-discrete u x) (rw (mask-node u h) at e)
     where
       go : (t : Bool) → among nodes x ≡ t → Dec (u ≡ x) → among (bitOr nodes (2 ^ u)) x ≡ true → (among nodes x ≡ true) ⊎ (u ≡ x)
       go true f d e = inl f

@@ -1,37 +1,51 @@
 -- `ask::count_fates` meets its contract. The loop's invariant: each count is that of the addresses below place p. Assumes nothing.
 use borrow.Author.Needs.{needs}
-use mathlib.Core.Path.{_≡_, sym}
+use mathlib.Core.Path.{_≡_, refl, sym, _∙_}
 use Prim.Native.Nat.{_+_, _-_, _≤_, _<_}
 use native.Mathlib.Omega.{arith}
 use Rattle.meaning.specs.Box.{stateOf}
-use Rattle.meaning.proofs.ByPlace.{Tallied, small-atom, ends-of, tally-none, tally-fits, tally-more, tally-is}
+use Rattle.meaning.proofs.Carried.{carries-of}
+use Rattle.meaning.proofs.ByPlace.{Tallied, small-atom, tally-none, tally-fits, tally-more, tally-is}
+use Rattle.hall.proofs.Standing.{declared-of}
 use Rattle.hall.proofs.ask.count_fates.Statement.{statement}
 use Rattle.hall.proofs.ask.count_fates.Tie as tie
 
 abbrev Inv-loop : tie.InvT-loop
-Inv-loop h link rule cut number label owner v atoms c₀ p₀ c p = (p ≤ atoms) × Tallied (stateOf h link rule cut number) v p (c .out) (c .lost) (c .round)
+Inv-loop h link rule cut number label owner v stand c₀ p₀ c p = (p ≤ h .atoms) × Tallied (stateOf h link rule cut number) v p (c .out) (c .lost) (c .round)
 
 abbrev μ-loop : tie.MeasureT-loop
-μ-loop h link rule cut number label owner v atoms c₀ p₀ c p = atoms - p
+μ-loop h link rule cut number label owner v stand c₀ p₀ c p = h .atoms - p
 
-cast-atoms : tie.Need-cast-atoms Inv-loop μ-loop
-cast-atoms c = search needs
+cast-divide : tie.Need-cast-divide Inv-loop μ-loop
+cast-divide c = search needs
+
+divide-requires : tie.Need-divide-requires Inv-loop μ-loop
+divide-requires c κs =
+    let s = c .before .before in
+    let W = s .pre .0 in
+    (declared-of W, omega (arith, s .pre .1, W .sound .small), refl)
 
 loop-holds : tie.Need-loop-holds Inv-loop μ-loop
 loop-holds c = (omega arith, tally-none _ _)
 
+cast-if1 : tie.Need-cast-if1 Inv-loop μ-loop
+cast-if1 c = search needs
+
 atom-at-requires : tie.Need-atom-at-requires Inv-loop μ-loop
-atom-at-requires c κs = omega (arith, c .before .before .before .pre .0 .sound .cuts .room)
+atom-at-requires c κs = omega (arith, c .before .before .before .before .before .before .pre .0 .sound .cuts .room)
 
 cast-atom : tie.Need-cast-atom Inv-loop μ-loop
 cast-atom c = search needs
 
-follow-requires : tie.Need-follow-requires Inv-loop μ-loop
-follow-requires c κs =
-    let s = c .before .before .before .before .before in
-    let W = s .pre .0 in
-    let q : c .before .atom-at .result .0 < 512 = rw (c .before .atom-at .ensures) (small-atom _ _ _ W _ (omega arith)) in
-    (q, omega (arith, s .pre .1, W .sound .small), W .sound .small, ends-of _ _ _ W)
+in-row-requires : tie.Need-in-row-requires Inv-loop μ-loop
+in-row-requires c κs =
+    let l = c .before .before .before .before .before in
+    (omega arith, rw (c .before .before .atom-at .ensures) (small-atom _ _ _ (l .before .before .before .before .pre .0) _ (omega arith)))
+
+in-row-requires-2 : tie.Need-in-row-requires-2 Inv-loop μ-loop
+in-row-requires-2 c κs =
+    let l = c .before .before .before .before .before .before .before in
+    (omega arith, rw (c .before .before .before .before .atom-at .ensures) (small-atom _ _ _ (l .before .before .before .before .pre .0) _ (omega arith)))
 
 add-counted : tie.Need-add-counted Inv-loop μ-loop
 add-counted c = search needs
@@ -50,14 +64,14 @@ element-copy-out-counted-2 c = search needs
 
 sub-counted : tie.Need-sub-counted Inv-loop μ-loop
 sub-counted c =
-    let l = c .before .before .before .before .before .before in
-    let W = l .before .before .pre .0 in
+    let l = c .before .before .before .before .before .before .before .before .before .before in
+    let W = l .before .before .before .before .pre .0 in
     omega (arith, W .sound .cuts .up (l .loop .p) (l .loop .p + 1) (omega arith) (omega arith))
 
 counted-requires : tie.Need-counted-requires Inv-loop μ-loop
 counted-requires c κs =
-    let l = c .before .before .before .before .before .before in
-    tally-fits _ _ _ (l .before .before .pre .0) _ _ _ _ _ (omega arith) (l .loop .inv .1)
+    let l = c .before .before .before .before .before .before .before .before .before .before in
+    tally-fits _ _ _ (l .before .before .before .before .pre .0) _ _ _ _ _ (omega arith) (l .loop .inv .1)
 
 add-p : tie.Need-add-p Inv-loop μ-loop
 add-p c = search needs
@@ -67,17 +81,25 @@ loop-less c = search needs
 
 loop-again : tie.Need-loop-again Inv-loop μ-loop
 loop-again c =
-    let l = c .before .before .before .before .before .before .before in
-    let f = c .before .before .before in
-    let e = rw (f .before .before .atom-at .ensures) at (f .follow .ensures) in
-    let n = c .counted .ensures in
-    (omega arith, rw (n .out, n .lost, n .round) (tally-more _ _ _ (l .before .before .pre .0) _ _ _ _ _ (omega arith) (l .loop .inv .1) _ e))
+    let l = c .before .before .before .before .before .before .before .before .before .before .before in
+    let s = l .before .before .before .before in
+    let W = s .pre .0 in
+    let D = l .before .divide .ensures in
+    let a = c .before .before .before .before .before .before .before .before .atom-at in
+    let h = c .before .before .before .before .before .before .before .before .before .if1 .taken in
+    let k = small-atom _ _ _ W _ h in
+    let C = carries-of _ _ _ W in
+    let o = rw (a .ensures) at (c .before .before .before .before .before .in-row .ensures) ∙ D .out _ _ _ C (s .pre .1) k in
+    let t = rw (a .ensures) at (c .before .before .before .in-row2 .ensures) ∙ D .lost _ _ _ C (s .pre .1) k in
+    let n = c .counted .ensures _ (sym o) (sym t) in
+    (omega (arith, h), rw (n .out, n .lost, n .round) (tally-more _ _ _ W _ _ _ _ _ h (l .loop .inv .1) _ refl))
 
 returns : tie.Need-returns Inv-loop μ-loop
 returns c =
-    let l = c .before in
-    let e : l .loop .p ≡ l .before .before .args .h .atoms = omega arith in
-    sym (tally-is _ _ _ (l .before .before .pre .0) _ _ _ _ (rw e at (l .loop .inv .1)))
+    let l = c .before .before in
+    let s = l .before .before .before .before in
+    let e : l .loop .p ≡ s .args .h .atoms = omega arith in
+    sym (tally-is _ _ _ (s .pre .0) _ _ _ _ (rw e at (l .loop .inv .1)))
 
 pub count-fates-spec : {M : Type 1} → statement M
 count-fates-spec =
@@ -85,11 +107,14 @@ count-fates-spec =
     (tie.spec
     Inv-loop
     μ-loop
-    cast-atoms
+    cast-divide
+    divide-requires
     loop-holds
+    cast-if1
     atom-at-requires
     cast-atom
-    follow-requires
+    in-row-requires
+    in-row-requires-2
     add-counted
     mul-counted
     element-copy-out-counted

@@ -1,0 +1,96 @@
+-- What the functions that carry sets of atoms along links do to a table of such sets: rows of eight words, as a label's, row w for node w.
+-- Row 16 is for the atoms that go out of the hall, row 17 for those that are lost. Assumes nothing: these are definitions.
+use mathlib.Core.Path.{_≡_}
+use mathlib.Core.Logic.{_⊎_}
+use mathlib.Core.Bool.{Bool, true, false, _||_, _&&_, not}
+use mathlib.Core.List.{List}
+use Prim.Native.Nat.{ℕ, _<_, _≤_}
+use lib.Dec.{eqb}
+use lib.ListN.{length}
+use Rattle.meaning.specs.Search.{anyBelow}
+use Rattle.meaning.specs.Labels.{on}
+use Rattle.meaning.specs.Questions.{isOut, isLost}
+use Rattle.meaning.specs.Walk.{fateIn}
+use Rattle.meaning.proofs.Owners.{nextIn, endIn}
+use Rattle.meaning.proofs.Moving.{among}
+use Rattle.meaning.proofs.Carried.{sourceIn, Carries, Reached, Within, leavesBy, goesOn}
+
+-- the links below `links` start at nodes
+pub record Declared (link : List ℕ) (links : ℕ) : Type 0 where
+  pub few : links ≤ 64
+  pub source : (l : ℕ) → l < links → sourceIn link l < 16
+
+-- row v has all atoms, and the other rows none
+pub record Filled (v : ℕ) (stand : List ℕ) : Type 0 where
+  pub size : length stand ≡ 144
+  pub member : (u k : ℕ) → u < 18 → k < 512 → on stand u k ≡ eqb u v
+
+-- the atoms of row s on link l have joined row r; nothing is new where `more` is 0
+pub record Joined (label : List ℕ) (l s r : ℕ) (before after : List ℕ) (more : ℕ) : Type 0 where
+  pub size : length after ≡ 144
+  pub member : (u k : ℕ) → u < 18 → k < 512 → on after u k ≡ on before u k || (eqb u r && (on before s k && on label l k))
+  pub still : more ≡ 0 → (u k : ℕ) → u < 18 → k < 512 → on after u k ≡ on before u k
+
+-- the atoms on link l are taken out of row s
+pub record TakenAway (label : List ℕ) (l s : ℕ) (before after : List ℕ) : Type 0 where
+  pub size : length after ≡ 144
+  pub member : (u k : ℕ) → u < 18 → k < 512 → on after u k ≡ on before u k && not (eqb u s && on label l k)
+
+-- no row has lost an atom
+abbrev pub Kept : List ℕ → List ℕ → Type 0
+Kept before after = (u k : ℕ) → u < 18 → k < 512 → on before u k ≡ true → on after u k ≡ true
+
+-- the atoms that stood at the source of a link to a node, one of the first n links, and are on the link, stand at the node
+abbrev pub Took : List ℕ → List ℕ → ℕ → List ℕ → List ℕ → Type 0
+Took link label n before after = (l k : ℕ) → l < n → k < 512 → endIn link l < 16 → on before (sourceIn link l) k ≡ true → on label l k ≡ true → on after (endIn link l) k ≡ true
+
+-- of the first n links, those from other nodes than these have carried on all their atoms
+pub record SettledBut (link label : List ℕ) (n nodes : ℕ) (stand : List ℕ) : Type 0 where
+  pub on-all : (l k : ℕ) → l < n → k < 512 → endIn link l < 16 → among nodes (sourceIn link l) ≡ false → on stand (sourceIn link l) k ≡ true → on label l k ≡ true
+      → on stand (endIn link l) k ≡ true
+
+-- link l, where it starts at a node of `nodes` and leads to a node, has carried its atoms on; the rows that grew are in `more`
+pub record Along (link label : List ℕ) (l nodes : ℕ) (before after : List ℕ) (more : ℕ) : Type 0 where
+  pub size : length after ≡ 144
+  pub kept : Kept before after
+  pub only : (u k : ℕ) → u < 18 → k < 512 → on after u k ≡ true
+      → (on before u k ≡ true) ⊎ ((u ≡ endIn link l) × (u < 16) × (on before (sourceIn link l) k ≡ true) × (on label l k ≡ true))
+  pub took : (k : ℕ) → k < 512 → endIn link l < 16 → among nodes (sourceIn link l) ≡ true → on before (sourceIn link l) k ≡ true → on label l k ≡ true
+      → on after (endIn link l) k ≡ true
+  pub still : (u k : ℕ) → u < 18 → k < 512 → among more u ≡ false → on after u k ≡ on before u k
+
+-- a round over the first n of the links: no atom stands where its walk does not come to, and what stood before the round has moved on once.
+-- What is still to be carried on stands at the nodes of `next`
+pub record Round (link label : List ℕ) (links n : ℕ) (before after : List ℕ) (next : ℕ) : Type 0 where
+  pub size : length after ≡ 144
+  pub kept : Kept before after
+  pub reached : (owner : List ℕ) (nodes v : ℕ) → Carries link label owner links nodes → Reached link owner v before → Reached link owner v after
+  pub took : Took link label n before after
+  pub settled : SettledBut link label n next after
+
+-- each node's row has the atoms whose walks from v come to it
+pub record Spread (link label : List ℕ) (links v : ℕ) (stand : List ℕ) : Type 0 where
+  pub size : length stand ≡ 144
+  pub reached : (owner : List ℕ) (nodes : ℕ) → Carries link label owner links nodes → Reached link owner v stand
+  pub within : (owner : List ℕ) (nodes : ℕ) → Carries link label owner links nodes → Within link owner v 16 stand
+
+-- the atoms that leave by a link have joined row 16
+pub record Outward (link label : List ℕ) (n : ℕ) (before after : List ℕ) : Type 0 where
+  pub size : length after ≡ 144
+  pub out : (k : ℕ) → k < 512 → on after 16 k ≡ on before 16 k || anyBelow n (leavesBy link label before k)
+  pub else : (u k : ℕ) → u < 18 → k < 512 → (u ≡ 16 → ⊥) → on after u k ≡ on before u k
+
+-- each row keeps the atoms that no link takes on
+pub record Stayed (link label : List ℕ) (n : ℕ) (before after : List ℕ) : Type 0 where
+  pub size : length after ≡ 144
+  pub member : (u k : ℕ) → u < 18 → k < 512 → on after u k ≡ on before u k && not (anyBelow n (goesOn link label u k))
+
+-- the atoms of the nodes' rows have joined row 17
+pub record Gathered (before after : List ℕ) : Type 0 where
+  pub lost : (k : ℕ) → k < 512 → on after 17 k ≡ on before 17 k || anyBelow 16 (λ u. on before u k)
+  pub else : (u k : ℕ) → u < 17 → k < 512 → on after u k ≡ on before u k
+
+-- row 16 has the atoms that go out from v, and row 17 those that are lost
+pub record Divided (link label : List ℕ) (links v : ℕ) (stand : List ℕ) : Type 0 where
+  pub out : (owner : List ℕ) (nodes k : ℕ) → Carries link label owner links nodes → v < nodes → k < 512 → on stand 16 k ≡ isOut (fateIn (nextIn owner k) (endIn link) nodes 0 v)
+  pub lost : (owner : List ℕ) (nodes k : ℕ) → Carries link label owner links nodes → v < nodes → k < 512 → on stand 17 k ≡ isLost (fateIn (nextIn owner k) (endIn link) nodes 0 v)
