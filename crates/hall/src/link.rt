@@ -30,8 +30,8 @@ pub fn source_of(word: u16) -> usize
     (word / 1024) as usize
 }
 
-// The end of a link, by its word: with `source_of` the inverse of `pack`, which puts the end's number there.
-// Kept to show this: the box goes by that number itself.
+// The end of a link, by its word: with `source_of` the inverse of `pack`, by the laws source-again, end-again and same-end of meaning's
+// proofs/Words. Kept to show this: the box goes by the end's number itself.
 pub fn end_of(word: u16) -> End
     requires { ⌜ word % 1024 ≤ 512 ⌝ }
     ensures { λ r. ⌜ endNumber r ≡ word % 1024 ⌝ }

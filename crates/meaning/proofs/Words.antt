@@ -11,7 +11,9 @@ use lib.Pow.{pow-pos, pow-add, pow-lt, pow-mono}
 use lib.ListN.{getD}
 use borrow.Author.Tests.{eq-eqb, ne-eqb, le-leb, lt-leb}
 use Rattle.meaning.specs.Rule.{lengthOf, ruleWord, live, linkOf, rank, lower, upper, covers}
-use Rattle.meaning.specs.Hall.{State, sourceOf}
+use Rattle.meaning.specs.Hall.{State, sourceOf, endNumber, linkWord}
+use Rattle.meaning.specs.declared.End.{End}
+use Rattle.meaning.specs.declared.End.the-variants.{Node, Port, Drop}
 use Rattle.meaning.specs.Winner.{ruleAt, eligible}
 use Rattle.meaning.specs.declared.Record.{Record}
 use Rattle.meaning.specs.declared.Record.the-variants.{Hall as hall, Link as link, Close as close, Insert as insert, Remove as remove, Loop as loop, Fate as fate, Reach as reach, Tally as tally}
@@ -141,3 +143,42 @@ module _ (m : State) (v a i w : ℕ) (is : w ≡ ruleAt m i) where
   pub by-cover : (w ≡ 0 → ⊥) → sourceOf m (linkOf w) ≡ v → covers w a ≡ eligible m v a i
   unfolding eligible live
   by-cover n f = rw (← is, ne-eqb w 0 n, eq-eqb (sourceOf m (linkOf w)) v f)
+
+-- ---- a link's word: its source and its end come back from it
+
+-- the number in an end is that of a byte
+pub numberIn : End → ℕ
+numberIn (Node v) = v
+numberIn (Port p) = p
+numberIn Drop = 0
+
+module _ (source : ℕ) (e : End) (byte : numberIn e < 256) where
+  few : endNumber e < 1024
+  unfolding endNumber numberIn
+  few = go e byte
+    where
+      go : (e : End) → numberIn e < 256 → endNumber e < 1024
+      go (Node v) h = omega arith
+      go (Port p) h = omega arith
+      go Drop h = omega arith
+
+  pub source-again : linkWord source (endNumber e) / 1024 ≡ source
+  unfolding linkWord
+  source-again = omega (arith, few)
+
+  pub end-again : linkWord source (endNumber e) % 1024 ≡ endNumber e
+  unfolding linkWord
+  end-again = omega (arith, few)
+
+-- ends with the same number are the same end
+pub same-end : (e f : End) → numberIn e < 256 → numberIn f < 256 → endNumber e ≡ endNumber f → e ≡ f
+unfolding endNumber numberIn
+same-end (Node v) (Node w) h k q = ap Node q
+same-end (Node v) (Port p) h k q = absurd (omega arith)
+same-end (Node v) Drop h k q = absurd (omega arith)
+same-end (Port p) (Node w) h k q = absurd (omega arith)
+same-end (Port p) (Port r) h k q = ap Port (omega arith)
+same-end (Port p) Drop h k q = absurd (omega arith)
+same-end Drop (Node w) h k q = absurd (omega arith)
+same-end Drop (Port r) h k q = absurd (omega arith)
+same-end Drop Drop h k q = refl
