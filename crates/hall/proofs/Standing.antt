@@ -8,11 +8,12 @@ use native.Mathlib.Decide.{ℕ-discrete}
 use native.Mathlib.Nat.{mod-lt, zero-lt-suc}
 use native.Mathlib.Numerals.{add-one}
 use native.Mathlib.Omega.{arith}
-use lib.Bits.{bitOr, bitAnd, bitXor, or-zero-l}
+use lib.Bits.{bitOr, bitAnd, bitXor, and-le-l}
+use lib.Count.{trailingZeros}
 use lib.Dec.{eqb, ltb}
 use lib.ListN.{length, getD, set, length-set, length-replicate, getD-replicate}
 use lib.Seq.{getD-set-same, getD-set-other}
-use borrow.Author.Tests.{eq-eqb, ne-eqb, eqb-true, lt-ltb, le-ltb}
+use borrow.Author.Tests.{eq-eqb, ne-eqb, eqb-true, not-false, lt-ltb, le-ltb}
 use Rattle.meaning.specs.Search.{anyBelow}
 use Rattle.meaning.specs.Hall.{zeroes, State}
 use Rattle.meaning.specs.Labels.{bit, on}
@@ -24,9 +25,10 @@ use Rattle.meaning.proofs.Walks.{after-suc, going-down}
 use Rattle.meaning.proofs.Idle.{any-off}
 use Rattle.meaning.proofs.Moving.{among, step-to}
 use Rattle.meaning.proofs.Carried.{sourceIn, Carries, Reached, Within, leavesBy, goesOn, lostAt, moved-by, moves-on, carries-of, out-is, lost-is}
+use Rattle.meaning.proofs.LabelWords.{trailing-below, trailing-at}
 use Rattle.meaning.proofs.Members.{and-both}
-use Rattle.meaning.proofs.Bits.{bit-of-zero, set-bit, mask-node, or-bits, and-bits, without-bits, all-bits, or-none, xor-none}
-use Rattle.hall.specs.Standing.{Declared, Filled, Joined, TakenAway, Kept, Took, SettledBut, Along, Round, Spread, Outward, Stayed, Gathered, Divided}
+use Rattle.meaning.proofs.Bits.{bit-of-zero, set-bit, clear-bit, mask-link, or-bits, and-bits, without-bits, all-bits, or-none, xor-none}
+use Rattle.hall.specs.Standing.{Declared, Filled, Joined, TakenAway, Kept, Took, Leaving, SettledBut, Along, Round, Spread, Outward, Stayed, GatheredRow, Gathered, Divided}
 
 -- a box in order has links that start at nodes
 pub declared-of : {m : State} {label owner : List ℕ} → Whole m label owner → Declared (m .link) (m .links)
@@ -164,56 +166,54 @@ taken-away {label} {b} {a} {l} {s} {j} L T e = record { size = W .size; member =
 
 -- ---- the nodes' rows gathered in one
 
--- the first i words are joined to those of row 17
-pub record Gathering (before after : List ℕ) (i : ℕ) : Type 0 where
-  pub size : length after ≡ 144
-  pub low : (x : ℕ) → x < 136 → getD after x 0 ≡ getD before x 0
-  pub lost : (k : ℕ) → k < 512 → on after 17 k ≡ on before 17 k || anyBelow ((i + 7 - k / 64) / 8) (λ u. on before u k)
+abbrev gatheredWord : List ℕ → ℕ → ℕ → ℕ
+gatheredWord b v i = bitOr (getD b (136 + i) 0) (getD b (8 * v + i) 0)
 
-pub gathering-none : (b : List ℕ) → length b ≡ 144 → Gathering b b 0
-unfolding anyBelow
-gathering-none b size = record { size = size; low = λ x h. refl; lost = λ k hk. sym (or-false (on b 17 k)) ∙ ap (λ (n : ℕ). on b 17 k || anyBelow n (λ u. on b u k)) (none k hk) }
+-- the first j words of row v are joined to those of row 17
+pub record GatheringRow (v : ℕ) (before after : List ℕ) (j : ℕ) : Type 0 where
+  pub words : Writing before after 17 j (gatheredWord before v)
+
+pub gathering-none : (v : ℕ) (b : List ℕ) → length b ≡ 144 → GatheringRow v b b 0
+gathering-none v b size = record { words = writing-none b 17 _ size }
+
+pub gathering-more : {v j : ℕ} {b a : List ℕ} → GatheringRow v b a j → j < 8 → (y : ℕ) → y ≡ gatheredWord a v j → GatheringRow v b (set a (136 + j) y) (j + 1)
+gathering-more {v} {j} {b} {a} G hj y e =
+    record { words = writing-more (G .words) (omega arith) hj y (e ∙ ap₂ bitOr (unwritten (G .words) 17 hj) (unwritten (G .words) v hj)) }
+
+pub gathered-row : {v j : ℕ} {b a : List ℕ} → GatheringRow v b a j → j ≡ 8 → GatheredRow v b a
+gathered-row {v} {j} {b} {a} G e = record { size = G .words .size; member = λ u k hu hk. go u k hk (ℕ-discrete u 17) }
   where
-    none : (k : ℕ) → k < 512 → 0 ≡ (0 + 7 - k / 64) / 8
-    none k hk = omega arith
+    go : (u k : ℕ) → k < 512 → Dec (u ≡ 17) → on a u k ≡ on b u k || (eqb u 17 && on b v k)
+    go u k hk (yes q) =
+        written (G .words) (omega arith) u k hk q
+        ∙ or-bits (getD b (136 + k / 64) 0) (getD b (8 * v + k / 64) 0) (k % 64)
+        ∙ ap₂ (λ (x : ℕ) (t : Bool). on b x k || (t && on b v k)) (sym q) (sym (eq-eqb u 17 q))
+    go u k hk (no n) =
+        other-row (G .words) (omega arith) u k hk n (omega arith) ∙ sym (or-false (on b u k))
+        ∙ ap (λ (t : Bool). on b u k || (t && on b v k)) (sym (ne-eqb u 17 n))
 
-pub gathering-more : {b a : List ℕ} {i : ℕ} → Gathering b a i → i < 128 → Gathering b (set a (136 + i % 8) (bitOr (getD a (136 + i % 8) 0) (getD a i 0))) (i + 1)
+-- one more of the numbers below a bound
+any-more : (P : ℕ → Bool) (n : ℕ) → anyBelow (n + 1) P ≡ anyBelow n P || P n
 unfolding anyBelow
-gathering-more {b} {a} {i} G hi = record {
-  size = length-set a (136 + i % 8) y ∙ G .size;
-  low = λ x h. getD-set-other a (136 + i % 8) x y 0 (λ q. omega arith) ∙ G .low x h;
-  lost = λ k hk. go k hk (ℕ-discrete (k / 64) (i % 8));
-}
-  where
-    y : ℕ
-    y = bitOr (getD a (136 + i % 8) 0) (getD a i 0)
+any-more P n = ap (λ (x : ℕ). anyBelow x P) (add-one n)
 
-    go : (k : ℕ) → k < 512 → Dec (k / 64 ≡ i % 8) → on (set a (136 + i % 8) y) 17 k ≡ on b 17 k || anyBelow ((i + 1 + 7 - k / 64) / 8) (λ u. on b u k)
-    go k hk (yes q) =
-        let at : 8 * (i / 8) + k / 64 ≡ i = omega arith in
-        let now : (i + 7 - k / 64) / 8 ≡ i / 8 = omega arith in
-        let then : suc (i / 8) ≡ (i + 1 + 7 - k / 64) / 8 = omega arith in
-        let here : getD (set a (136 + i % 8) y) (136 + k / 64) 0 ≡ y = rw q (getD-set-same a (136 + i % 8) y 0 (omega (arith, G .size))) in
-        ap (λ (x : ℕ). eqb (bit x (k % 64)) 1) here
-        ∙ or-bits (getD a (136 + i % 8) 0) (getD a i 0) (k % 64)
-        ∙ ap₂ (λ (s t : Bool). s || t)
-        (ap (λ (x : ℕ). eqb (bit (getD a (136 + x) 0) (k % 64)) 1) (sym q) ∙ G .lost k hk)
-        (ap (λ (x : ℕ). eqb (bit x (k % 64)) 1) (G .low i (omega arith) ∙ ap (λ (x : ℕ). getD b x 0) (sym at)))
-        ∙ or-assoc (on b 17 k) (anyBelow ((i + 7 - k / 64) / 8) (λ u. on b u k)) (on b (i / 8) k)
-        ∙ ap (λ (n : ℕ). on b 17 k || (anyBelow n (λ u. on b u k) || on b (i / 8) k)) now
-        ∙ ap (λ (n : ℕ). on b 17 k || anyBelow n (λ u. on b u k)) then
-    go k hk (no n) =
-        let same : (i + 7 - k / 64) / 8 ≡ (i + 1 + 7 - k / 64) / 8 = omega arith in
-        ap (λ (x : ℕ). eqb (bit x (k % 64)) 1) (getD-set-other a (136 + i % 8) (136 + k / 64) y 0 (λ q. n (omega arith)))
-        ∙ G .lost k hk ∙ ap (λ (n : ℕ). on b 17 k || anyBelow n (λ u. on b u k)) same
+pub gathered-none : (b : List ℕ) → length b ≡ 144 → Gathered 0 b b
+unfolding anyBelow
+gathered-none b size = record { size = size; lost = λ k hk. sym (or-false (on b 17 k)); else = λ u k hu hk. refl }
 
-pub gathered : {b a : List ℕ} {i : ℕ} → Gathering b a i → i ≡ 128 → Gathered b a
-gathered {b} {a} {i} G e = record {
-  lost = λ k hk. G .lost k hk ∙ ap (λ (n : ℕ). on b 17 k || anyBelow n (λ u. on b u k)) (omega arith);
-  else = λ u k hu hk. ap (λ (x : ℕ). eqb (bit x (k % 64)) 1) (G .low (8 * u + k / 64) (omega arith));
+pub gathered-more : {n : ℕ} {b a a′ : List ℕ} → Gathered n b a → n < 16 → GatheredRow n a a′ → Gathered (n + 1) b a′
+gathered-more {n} {b} {a} {a′} G h R = record {
+  size = R .size;
+  lost = λ k hk.
+      R .member 17 k (omega arith) hk
+      ∙ ap₂ _||_ (G .lost k hk) (G .else n k (omega arith) hk)
+      ∙ or-assoc (on b 17 k) (anyBelow n (λ u. on b u k)) (on b n k)
+      ∙ ap (λ (x : Bool). on b 17 k || x) (sym (any-more (λ u. on b u k) n));
+  else = λ u k hu hk.
+      R .member u k (omega arith) hk ∙ ap (λ (t : Bool). on a u k || (t && on a n k)) (ne-eqb u 17 (λ q. omega arith)) ∙ or-false (on a u k) ∙ G .else u k hu hk;
 }
 
--- ---- one link carries its atoms on
+-- ---- the links that leave each node
 
 or-both : (a b : Bool) → (a || b) ≡ true → (a ≡ true) ⊎ (b ≡ true)
 or-both true b e = inl refl
@@ -223,44 +223,81 @@ not-or : (a b : Bool) → (a || b) ≡ false → (a ≡ false) × (b ≡ false)
 not-or true b e = absurd (true≢false e)
 not-or false b e = (refl, e)
 
--- the nodes of two sets, and the one node of a set
-either : (a b u : ℕ) → among (bitOr a b) u ≡ among a u || among b u
-either a b u = or-bits a b u
+-- no link is in the empty set
+none-among : (l : ℕ) → among 0 l ≡ false
+none-among l = ap (λ (d : ℕ). eqb d 1) (bit-of-zero l)
 
-one-node : (w u : ℕ) → w < 16 → among (1 * 2 ^ w % 65536) u ≡ eqb w u
-one-node w u h =
-    ap (λ (x : ℕ). eqb (bit x u) 1) (mask-node w h ∙ sym (or-zero-l (2 ^ w))) ∙ set-bit 0 w u
-    ∙ ap (λ (d : ℕ). eqb d 1 || eqb w u) (bit-of-zero u)
+pub leaving-none : (link b : List ℕ) → b ≡ zeroes 16 → Leaving link 0 b
+leaving-none link b z = record {
+  size = ap length z ∙ length-replicate {A = ℕ} 16 0;
+  all = λ l h. absurd (omega arith);
+  only = λ u l hu hl e. absurd (true≢false (sym e ∙ ap (λ (x : ℕ). among x l) (ap (λ (x : List ℕ). getD x u 0) z ∙ getD-replicate {A = ℕ} 16 u 0 0 hu) ∙ none-among l));
+}
 
-no-node : (u : ℕ) → among 0 u ≡ false
-no-node u = ap (λ (d : ℕ). eqb d 1) (bit-of-zero u)
+module _ {link a : List ℕ} {l : ℕ} (L : Leaving link l a) where
+  pub leaving-not : 16 ≤ endIn link l → Leaving link (l + 1) a
+  leaving-not far = record {
+    size = L .size;
+    all = λ m hm h. before m hm h (ℕ-discrete m l);
+    only = λ u m hu hm e. omega (arith, L .only u m hu hm e);
+  }
+    where
+      before : (m : ℕ) → m < l + 1 → endIn link m < 16 → Dec (m ≡ l) → among (getD a (sourceIn link m) 0) m ≡ true
+      before m hm h (yes q) = absurd (omega (arith, ap (endIn link) q))
+      before m hm h (no n) = L .all m (omega arith) h
 
--- a node that is not among these
-pub away : (nodes s u : ℕ) → s ≡ u → bit nodes s ≡ 0 → among nodes u ≡ true → ⊥
-away nodes s u e z g = let q : _≡_ {A = ℕ} 0 1 = sym z ∙ ap (bit nodes) e ∙ eqb-true (bit nodes u) 1 g in omega arith
+  pub leaving-by : {s : ℕ} → l < 64 → s ≡ sourceIn link l → s < 16 → Leaving link (l + 1) (set a s (bitOr (getD a s 0) (1 * 2 ^ l % 2 ^ 64)))
+  leaving-by {s} hl from hs = rw (mask-link l hl) (record {
+    size = length-set a s y ∙ L .size;
+    all = λ m hm h. all m hm h (ℕ-discrete m l) (ℕ-discrete (sourceIn link m) s);
+    only = λ u m hu hm e. only u m hu hm e (ℕ-discrete u s);
+  })
+    where
+      y : ℕ
+      y = bitOr (getD a s 0) (2 ^ l)
 
--- it does not: it leads to no node, or its source has not grown
-pub along-none : (link label : List ℕ) (l nodes : ℕ) (b : List ℕ) → length b ≡ 144 → (endIn link l < 16 → among nodes (sourceIn link l) ≡ true → ⊥) → Along link label l nodes b b 0
-along-none link label l nodes b size away = record {
+      here : getD (set a s y) s 0 ≡ y
+      here = getD-set-same a s y 0 (omega (arith, L .size))
+
+      all : (m : ℕ) → m < l + 1 → endIn link m < 16 → Dec (m ≡ l) → Dec (sourceIn link m ≡ s) → among (getD (set a s y) (sourceIn link m) 0) m ≡ true
+      all m hm h (yes q) (yes e) = rw (e, here) (set-bit (getD a s 0) l m ∙ ap (λ (t : Bool). among (getD a s 0) m || t) (eq-eqb l m (sym q)) ∙ or-true (among (getD a s 0) m))
+      all m hm h (yes q) (no n) = absurd (n (ap (sourceIn link) q ∙ sym from))
+      all m hm h (no n) (yes e) = rw (e, here) (set-bit (getD a s 0) l m ∙ ap (λ (t : Bool). t || eqb l m) (ap (λ (x : ℕ). among (getD a x 0) m) (sym e) ∙ L .all m (omega arith) h))
+      all m hm h (no n) (no d) = ap (λ (x : ℕ). among x m) (getD-set-other a s (sourceIn link m) y 0 d) ∙ L .all m (omega arith) h
+
+      only : (u m : ℕ) → u < 16 → m < 64 → among (getD (set a s y) u 0) m ≡ true → Dec (u ≡ s) → m < l + 1
+      only u m hu hm e (no d) = omega (arith, L .only u m hu hm (ap (λ (x : ℕ). among x m) (sym (getD-set-other a s u y 0 d)) ∙ e))
+      only u m hu hm e (yes q) =
+          ⊎-elim (λ f. omega (arith, L .only s m hs hm f)) (λ f. omega (arith, eqb-true l m f))
+          (or-both (among (getD a s 0) m) (eqb l m) (sym (set-bit (getD a s 0) l m) ∙ ap (λ (x : ℕ). among x m) (sym (ap (λ (x : ℕ). getD (set a s y) x 0) q ∙ here)) ∙ e))
+
+-- ---- one link carries its atoms on
+
+-- it does not, for it leads to no node
+pub along-none : (link label : List ℕ) (links l : ℕ) (b : List ℕ) → length b ≡ 144 → (endIn link l < 16 → ⊥) → Along link label links l b b 0
+along-none link label links l b size away = record {
   size = size;
   kept = λ u k hu hk e. e;
   only = λ u k hu hk e. inl e;
-  took = λ k hk h g e f. absurd (away h g);
-  still = λ u k hu hk e. refl;
+  took = λ k hk h e f. absurd (away h);
+  still = λ m k hm hk h e. refl;
+  declared = λ m hm e. absurd (true≢false (sym e ∙ none-among m));
 }
 
-module _ {link label : List ℕ} {l s r nodes : ℕ} {b a : List ℕ} {new : ℕ} (J : Joined label l s r b a new) (from : s ≡ sourceIn link l) (to : r ≡ endIn link l) (hr : r < 16) where
-  -- it does
-  along : (more : ℕ) → ((u k : ℕ) → u < 18 → k < 512 → among more u ≡ false → on a u k ≡ on b u k) → Along link label l nodes b a more
-  along more still = record {
+module _ {link label : List ℕ} {links l s r : ℕ} {b a : List ℕ} {new : ℕ} (D : Declared link links) (J : Joined label l s r b a new)
+    (from : s ≡ sourceIn link l) (to : r ≡ endIn link l) (hr : r < 16) where
+  along : (more : ℕ) → ((m k : ℕ) → m < links → k < 512 → endIn link m < 16 → among more m ≡ false → on a (sourceIn link m) k ≡ on b (sourceIn link m) k)
+      → ((m : ℕ) → m < 64 → among more m ≡ true → m < links) → Along link label links l b a more
+  along more still declared = record {
     size = J .size;
     kept = λ u k hu hk e. J .member u k hu hk ∙ ap (λ (t : Bool). t || (eqb u r && (on b s k && on label l k))) e;
     only = λ u k hu hk e. ⊎-elim inl (λ f. inr (new-one u k f)) (or-both _ _ (sym (J .member u k hu hk) ∙ e));
-    took = λ k hk h g e f.
+    took = λ k hk h e f.
         let m = J .member r k (omega arith) hk in
         let t : (eqb r r && (on b s k && on label l k)) ≡ true = ap₂ _&&_ (eq-eqb r r refl) (ap₂ _&&_ (ap (λ (x : ℕ). on b x k) from ∙ e) f) in
         ap (λ (x : ℕ). on a x k) (sym to) ∙ m ∙ ap (λ (x : Bool). on b r k || x) t ∙ or-true (on b r k);
     still = still;
+    declared = declared;
   }
     where
       new-one : (u k : ℕ) → (eqb u r && (on b s k && on label l k)) ≡ true → (u ≡ endIn link l) × (u < 16) × (on b (sourceIn link l) k ≡ true) × (on label l k ≡ true)
@@ -270,41 +307,48 @@ module _ {link label : List ℕ} {l s r nodes : ℕ} {b a : List ℕ} {new : ℕ
           let e : u ≡ r = eqb-true u r (p .0) in
           (e ∙ to, rw e hr, ap (λ (x : ℕ). on b x k) (sym from) ∙ q .0, q .1)
 
-  -- and nothing is new
-  pub along-still : new ≡ 0 → Along link label l nodes b a 0
-  along-still z = along 0 (λ u k hu hk e. J .still z u k hu hk)
+  -- it does, and nothing is new
+  pub along-still : new ≡ 0 → Along link label links l b a 0
+  along-still z = along 0 (λ m k hm hk h e. J .still z (sourceIn link m) k (omega (arith, D .source m hm)) hk) (λ m hm e. absurd (true≢false (sym e ∙ none-among m)))
 
-  -- or the node it leads to has grown
-  pub along-new : Along link label l nodes b a (1 * 2 ^ r % 65536)
-  along-new = along (1 * 2 ^ r % 65536) (λ u k hu hk e. unmoved u k hu hk (sym (one-node r u hr) ∙ e) (ℕ-discrete r u))
+  -- it does, and the links that leave its end are to carry on what is new
+  pub along-new : (leaving : List ℕ) → Leaving link links leaving → Along link label links l b a (getD leaving r 0)
+  along-new leaving L = along (getD leaving r 0) (λ m k hm hk h e. unmoved m k hm hk h e (ℕ-discrete (sourceIn link m) r)) (λ m hm e. L .only r m hr hm e)
     where
-      unmoved : (u k : ℕ) → u < 18 → k < 512 → eqb r u ≡ false → Dec (r ≡ u) → on a u k ≡ on b u k
-      unmoved u k hu hk e (yes q) = absurd (true≢false (sym (eq-eqb r u q) ∙ e))
-      unmoved u k hu hk e (no n) = J .member u k hu hk ∙ ap (λ (t : Bool). on b u k || (t && (on b s k && on label l k))) (ne-eqb u r (λ q. n (sym q))) ∙ or-false (on b u k)
+      unmoved : (m k : ℕ) → m < links → k < 512 → endIn link m < 16 → among (getD leaving r 0) m ≡ false → Dec (sourceIn link m ≡ r) → on a (sourceIn link m) k ≡ on b (sourceIn link m) k
+      unmoved m k hm hk h e (yes q) = absurd (true≢false (sym (L .all m hm h) ∙ ap (λ (x : ℕ). among (getD leaving x 0) m) q ∙ e))
+      unmoved m k hm hk h e (no n) =
+          J .member (sourceIn link m) k (omega (arith, D .source m hm)) hk
+          ∙ ap (λ (t : Bool). on b (sourceIn link m) k || (t && (on b s k && on label l k))) (ne-eqb (sourceIn link m) r n) ∙ or-false (on b (sourceIn link m) k)
 
 -- ---- a round
 
--- a round over the first l links, where all links are settled but for those from `grown`
-pub record Going (link label : List ℕ) (links : ℕ) (before after : List ℕ) (grown next l : ℕ) : Type 0 where
-  pub round : Round link label links l before after next
-  pub all : SettledBut link label links grown after
+-- a round where the links of `left` are still to be taken
+pub record Going (link label : List ℕ) (links : ℕ) (before after : List ℕ) (left next : ℕ) : Type 0 where
+  pub size : length after ≡ 144
+  pub kept : Kept before after
+  pub reached : (owner : List ℕ) (nodes v : ℕ) → Carries link label owner links nodes → Reached link owner v before → Reached link owner v after
+  pub took : (l k : ℕ) → l < links → k < 512 → endIn link l < 16 → among left l ≡ false → on before (sourceIn link l) k ≡ true → on label l k ≡ true → on after (endIn link l) k ≡ true
+  pub settled : (l k : ℕ) → l < links → k < 512 → endIn link l < 16 → among left l ≡ false → among next l ≡ false → on after (sourceIn link l) k ≡ true → on label l k ≡ true
+      → on after (endIn link l) k ≡ true
+  pub declared : (l : ℕ) → l < 64 → among left l ≡ true → l < links
+  pub declared-next : (l : ℕ) → l < 64 → among next l ≡ true → l < links
 
-pub going-start : (link label : List ℕ) (links : ℕ) (b : List ℕ) (from : ℕ) → length b ≡ 144 → SettledBut link label links from b → Going link label links b b from 0 0
+pub going-start : (link label : List ℕ) (links : ℕ) (b : List ℕ) (from : ℕ) → length b ≡ 144 → SettledBut link label links from b → Going link label links b b from 0
 going-start link label links b from size S = record {
-  round = record {
-    size = size;
-    kept = λ u k hu hk e. e;
-    reached = λ owner nodes v C R. R;
-    took = λ l k h. absurd (omega arith);
-    settled = record { on-all = λ l k h. absurd (omega arith) };
-  };
-  all = S;
+  size = size;
+  kept = λ u k hu hk e. e;
+  reached = λ owner nodes v C R. R;
+  took = λ l k hl hk h g e f. S .on-all l k hl hk h g e f;
+  settled = λ l k hl hk h g n e f. S .on-all l k hl hk h g e f;
+  declared = S .declared;
+  declared-next = λ l hl e. absurd (true≢false (sym e ∙ none-among l));
 }
 
 -- an atom moves along a link as its walk does
-reached-along : {link label owner : List ℕ} {links nodes v l from more : ℕ} {b a : List ℕ} → Carries link label owner links nodes → l < links → Along link label l from b a more
+reached-along : {link label owner : List ℕ} {links nodes v l more : ℕ} {b a : List ℕ} → Carries link label owner links nodes → l < links → Along link label links l b a more
     → Reached link owner v b → Reached link owner v a
-reached-along {link} {label} {owner} {links} {nodes} {v} {l} {from} {more} {b} {a} C hl A R = record {
+reached-along {link} {label} {owner} {links} {nodes} {v} {l} {more} {b} {a} C hl A R = record {
   comes = λ w k hw hk e. ⊎-elim (R .comes w k hw hk) (λ z. moved w k hk z) (A .only w k hw hk e);
 }
   where
@@ -315,54 +359,69 @@ reached-along {link} {label} {owner} {links} {nodes} {v} {l} {from} {more} {b} {
         let m = moves-on C k hk l hl f (omega (arith, q)) in
         (h, (r .1 .0 + 1, step-to (nextIn owner k) (endIn link) v (r .1 .0) (sourceIn link l) (r .1 .1) w (m ∙ ap at (sym q))))
 
-module _ {link label : List ℕ} {links : ℕ} {b a a′ : List ℕ} {grown next l more : ℕ} (D : Declared link links) (hl : l < links)
-    (G : Going link label links b a grown next l) (A : Along link label l grown a a′ more) where
-  R : Round link label links l b a next
-  R = G .round
+-- a set of links without one of them
+abbrev without : ℕ → ℕ → ℕ
+without left l = bitAnd left (2 ^ 64 - 1 - 1 * 2 ^ l % 2 ^ 64)
 
-  -- the atoms at the source of link l move on, for it has grown or is settled
-  carried : (k : ℕ) → k < 512 → endIn link l < 16 → on a (sourceIn link l) k ≡ true → on label l k ≡ true → on a′ (endIn link l) k ≡ true
-  carried k hk h e f = go (among grown (sourceIn link l)) refl
-    where
-      go : (t : Bool) → among grown (sourceIn link l) ≡ t → on a′ (endIn link l) k ≡ true
-      go true q = A .took k hk h q e f
-      go false q = A .kept (endIn link l) k (omega arith) hk (G .all .on-all l k hl hk h q e f)
+among-without : (left l m : ℕ) → l < 64 → m < 64 → among (without left l) m ≡ among left m && not (eqb l m)
+among-without left l m hl hm = rw (mask-link l hl) (clear-bit left l m hl hm)
 
-  -- what a row has that has not grown, it had before
-  had : (nodes m k : ℕ) → m < links → k < 512 → among (bitOr nodes more) (sourceIn link m) ≡ false → on a′ (sourceIn link m) k ≡ true
-      → (among nodes (sourceIn link m) ≡ false) × (on a (sourceIn link m) k ≡ true)
-  had nodes m k hm hk g e =
-      let n = not-or _ _ (sym (either nodes more (sourceIn link m)) ∙ g) in
-      (n .0, sym (A .still (sourceIn link m) k (omega (arith, D .source m hm)) hk (n .1)) ∙ e)
+-- the lowest link of a set is one of it, without it the set is a smaller number, and a set with no lowest link has none
+pub lowest-among : (left l : ℕ) → l ≡ trailingZeros 64 left → l < 64 → among left l ≡ true
+lowest-among left l e h = rw e (ap (λ (d : ℕ). eqb d 1) (trailing-at 64 left (omega (arith, e))))
 
-  pub going-more : Going link label links b a′ (bitOr grown more) (bitOr next more) (l + 1)
-  unfolding R
-  going-more = record {
-    round = record {
-      size = A .size;
-      kept = λ u k hu hk e. A .kept u k hu hk (R .kept u k hu hk e);
-      reached = λ owner nodes v C r. reached-along C hl A (R .reached owner nodes v C r);
-      took = λ m k hm hk h e f. took m k hm hk h e f (ℕ-discrete m l);
-      settled = record { on-all = λ m k hm hk h g e f. settled m k hm hk h (had next m k (omega arith) hk g e) f (ℕ-discrete m l) };
-    };
-    all = record {
-      on-all = λ m k hm hk h g e f.
-          let z = had grown m k hm hk g e in
-          A .kept (endIn link m) k (omega arith) hk (G .all .on-all m k hm hk h (z .0) (z .1) f);
-    };
+pub without-less : (left l : ℕ) → l < 64 → among left l ≡ true → bitAnd left (2 ^ 64 - 1 - 1 * 2 ^ l % 2 ^ 64) < left
+without-less left l hl e = less (without left l) (and-le-l left (2 ^ 64 - 1 - 1 * 2 ^ l % 2 ^ 64)) (λ q.
+    true≢false (sym (ap (λ (x : ℕ). among x l) q ∙ e) ∙ among-without left l l hl hl ∙ ap₂ (λ (x y : Bool). x && not y) e (eq-eqb l l refl)))
+  where
+    less : (x : ℕ) → x ≤ left → (x ≡ left → ⊥) → x < left
+    less x h n = omega arith
+
+pub none-left : (left l : ℕ) → l ≡ trailingZeros 64 left → 64 ≤ l → (m : ℕ) → m < 64 → among left m ≡ false
+none-left left l e h m hm = ap (λ (d : ℕ). eqb d 1) (trailing-below 64 left m (omega (arith, e)))
+
+-- it is not in the smaller set: it was not in the larger one, or is the link taken out
+not-in : (x : Bool) (l m : ℕ) → (x && not (eqb l m)) ≡ false → (x ≡ false) ⊎ (l ≡ m)
+not-in false l m e = inl refl
+not-in true l m e = inr (eqb-true l m (not-false _ e))
+
+module _ {link label : List ℕ} {links : ℕ} {b a : List ℕ} {left next : ℕ} (D : Declared link links) (G : Going link label links b a left next) where
+  pub going-more : {a′ : List ℕ} {l more : ℕ} → l < 64 → among left l ≡ true → Along link label links l a a′ more
+      → Going link label links b a′ (bitAnd left (2 ^ 64 - 1 - 1 * 2 ^ l % 2 ^ 64)) (bitOr next more)
+  going-more {a′} {l} {more} hl g A = record {
+    size = A .size;
+    kept = λ u k hu hk e. A .kept u k hu hk (G .kept u k hu hk e);
+    reached = λ owner nodes v C r. reached-along C (G .declared l hl g) A (G .reached owner nodes v C r);
+    took = λ m k hm hk h n e f. took m k hm hk h e f (out m hm n);
+    settled = λ m k hm hk h n x e f.
+        let z = not-or _ _ (sym (or-bits next more m) ∙ x) in
+        settled m k hm hk h (z .0) (sym (A .still m k hm hk h (z .1)) ∙ e) f (out m hm n);
+    declared = λ m hm e. G .declared m hm (and-both _ _ (sym (among-without left l m hl hm) ∙ e) .0);
+    declared-next = λ m hm e. ⊎-elim (G .declared-next m hm) (A .declared m hm) (or-both _ _ (sym (or-bits next more m) ∙ e));
   }
     where
-      took : (m k : ℕ) → m < l + 1 → k < 512 → endIn link m < 16 → on b (sourceIn link m) k ≡ true → on label m k ≡ true → Dec (m ≡ l) → on a′ (endIn link m) k ≡ true
-      took m k hm hk h e f (yes q) = rw q (carried k hk (rw q at h) (R .kept (sourceIn link l) k (omega (arith, D .source l hl)) hk (rw q at e)) (rw q at f))
-      took m k hm hk h e f (no n) = A .kept (endIn link m) k (omega arith) hk (R .took m k (omega arith) hk h e f)
+      out : (m : ℕ) → m < links → among (without left l) m ≡ false → (among left m ≡ false) ⊎ (l ≡ m)
+      out m hm n = not-in (among left m) l m (sym (among-without left l m hl (omega (arith, D .few))) ∙ n)
 
-      settled : (m k : ℕ) → m < l + 1 → k < 512 → endIn link m < 16 → (among next (sourceIn link m) ≡ false) × (on a (sourceIn link m) k ≡ true) → on label m k ≡ true → Dec (m ≡ l)
+      took : (m k : ℕ) → m < links → k < 512 → endIn link m < 16 → on b (sourceIn link m) k ≡ true → on label m k ≡ true → (among left m ≡ false) ⊎ (l ≡ m) → on a′ (endIn link m) k ≡ true
+      took m k hm hk h e f (inl n) = A .kept (endIn link m) k (omega arith) hk (G .took m k hm hk h n e f)
+      took m k hm hk h e f (inr q) =
+          let o = G .kept (sourceIn link m) k (omega (arith, D .source m hm)) hk e in
+          rw q at (A .took k hk (rw (← q) at h) (rw (← q) at o) (rw (← q) at f))
+
+      settled : (m k : ℕ) → m < links → k < 512 → endIn link m < 16 → among next m ≡ false → on a (sourceIn link m) k ≡ true → on label m k ≡ true → (among left m ≡ false) ⊎ (l ≡ m)
           → on a′ (endIn link m) k ≡ true
-      settled m k hm hk h z f (yes q) = rw q (carried k hk (rw q at h) (rw q at (z .1)) (rw q at f))
-      settled m k hm hk h z f (no n) = A .kept (endIn link m) k (omega arith) hk (R .settled .on-all m k (omega arith) hk h (z .0) (z .1) f)
+      settled m k hm hk h x e f (inl n) = A .kept (endIn link m) k (omega arith) hk (G .settled m k hm hk h n x e f)
+      settled m k hm hk h x e f (inr q) = rw q at (A .took k hk (rw (← q) at h) (rw (← q) at e) (rw (← q) at f))
 
-pub going-end : {link label : List ℕ} {links : ℕ} {b a : List ℕ} {grown next l : ℕ} → Going link label links b a grown next l → l ≡ links → Round link label links links b a next
-going-end {link} {label} {links} {b} {a} {grown} {next} {l} G e = rw e at (G .round)
+  pub going-end : ((m : ℕ) → m < 64 → among left m ≡ false) → Round link label links b a next
+  going-end none = record {
+    size = G .size;
+    kept = G .kept;
+    reached = G .reached;
+    took = λ l k hl hk h e f. G .took l k hl hk h (none l (omega (arith, D .few))) e f;
+    settled = record { on-all = λ l k hl hk h g e f. G .settled l k hl hk h (none l (omega (arith, D .few))) g e f; declared = G .declared-next };
+  }
 
 -- ---- round after round
 
@@ -376,18 +435,22 @@ pub record Waves (link label : List ℕ) (links v : ℕ) (stand : List ℕ) (fro
 at-once : (v w : ℕ) → at v ≡ at w → v ≡ w
 at-once v w e = cc
 
-pub waves-start : {v : ℕ} {stand : List ℕ} (link label : List ℕ) (links : ℕ) → Declared link links → v < 16 → Filled v stand → Waves link label links v stand (1 * 2 ^ v % 65536) 0
+pub waves-start : {v : ℕ} {stand : List ℕ} (link label : List ℕ) (links : ℕ) (leaving : List ℕ) → Leaving link links leaving → Declared link links → v < 16 → Filled v stand
+    → Waves link label links v stand (getD leaving v 0) 0
 unfolding after
-waves-start {v} {stand} link label links D hv F = record {
+waves-start {v} {stand} link label links leaving L D hv F = record {
   size = F .size;
   reached = λ owner nodes C. record { comes = λ w k hw hk e. let q = eqb-true w v (sym (F .member w k hw hk) ∙ e) in (rw q hv, (0, ap at (sym q))) };
-  settled = record { on-all = λ l k hl hk h g e f. absurd (alone (sourceIn link l) k (omega (arith, D .source l hl)) hk (ℕ-discrete v (sourceIn link l)) g e) };
+  settled = record {
+    on-all = λ l k hl hk h g e f. absurd (alone l k hl hk h (ℕ-discrete (sourceIn link l) v) g e);
+    declared = λ l hl e. L .only v l hv hl e;
+  };
   within = λ owner nodes C. record { stood = λ j k w hj hk e. first owner j k w hj hk e };
 }
   where
-    alone : (u k : ℕ) → u < 18 → k < 512 → Dec (v ≡ u) → among (1 * 2 ^ v % 65536) u ≡ false → on stand u k ≡ true → ⊥
-    alone u k hu hk (yes q) g e = true≢false (sym (one-node v u hv ∙ eq-eqb v u q) ∙ g)
-    alone u k hu hk (no n) g e = true≢false (sym e ∙ F .member u k hu hk ∙ ne-eqb u v (λ q. n (sym q)))
+    alone : (l k : ℕ) → l < links → k < 512 → endIn link l < 16 → Dec (sourceIn link l ≡ v) → among (getD leaving v 0) l ≡ false → on stand (sourceIn link l) k ≡ true → ⊥
+    alone l k hl hk h (yes q) g e = true≢false (sym (L .all l hl h) ∙ ap (λ (x : ℕ). among (getD leaving x 0) l) q ∙ g)
+    alone l k hl hk h (no n) g e = true≢false (sym e ∙ F .member (sourceIn link l) k (omega (arith, D .source l hl)) hk ∙ ne-eqb (sourceIn link l) v n)
 
     first : (owner : List ℕ) (j k w : ℕ) → j < 0 + 1 → k < 512 → after (nextIn owner k) (endIn link) j (at v) ≡ at w → on stand w k ≡ true
     first owner zero k w hj hk e = let q = at-once v w e in ap (λ (x : ℕ). on stand x k) (sym q) ∙ F .member v k (omega arith) hk ∙ eq-eqb v v refl
@@ -423,10 +486,10 @@ module _ {link label owner : List ℕ} {links nodes v : ℕ} (C : Carries link l
       go zero k w hk e = I .stood 0 k w (omega arith) hk e
       go (suc j) k w hk e =
           let m = last-move C v j k w hk e in
-          rw (m .2) at (S .on-all (m .0) k (m .1) hk (omega (arith, m .2, m .3)) (no-node (sourceIn link (m .0))) (go j k (sourceIn link (m .0)) hk (m .5)) (m .4))
+          rw (m .2) at (S .on-all (m .0) k (m .1) hk (omega (arith, m .2, m .3)) (none-among (m .0)) (go j k (sourceIn link (m .0)) hk (m .5)) (m .4))
 
 module _ {link label : List ℕ} {links v : ℕ} {b : List ℕ} {from i : ℕ} (hv : v < 16) where
-  pub waves-more : {a : List ℕ} {next : ℕ} → Waves link label links v b from i → Round link label links links b a next → Waves link label links v a next (i + 1)
+  pub waves-more : {a : List ℕ} {next : ℕ} → Waves link label links v b from i → Round link label links b a next → Waves link label links v a next (i + 1)
   waves-more W R = record {
     size = R .size;
     reached = λ owner nodes C. R .reached owner nodes v C (W .reached owner nodes C);
@@ -447,11 +510,6 @@ module _ {link label : List ℕ} {links v : ℕ} {b : List ℕ} {from i : ℕ} (
 pub outward-none : (link label b : List ℕ) → length b ≡ 144 → Outward link label 0 b b
 unfolding anyBelow
 outward-none link label b size = record { size = size; out = λ k hk. sym (or-false (on b 16 k)); else = λ u k hu hk n. refl }
-
--- one link more
-any-more : (P : ℕ → Bool) (n : ℕ) → anyBelow (n + 1) P ≡ anyBelow n P || P n
-unfolding anyBelow
-any-more P n = ap (λ (x : ℕ). anyBelow x P) (add-one n)
 
 module _ {link label b a : List ℕ} {l : ℕ} (O : Outward link label l b a) where
   pub outward-by : {a′ : List ℕ} {s more : ℕ} → endIn link l / 256 ≡ 1 → s ≡ sourceIn link l → s < 16 → Joined label l s 16 a a′ more → Outward link label (l + 1) b a′
@@ -520,7 +578,7 @@ any-same P Q zero h = refl
 any-same P Q (suc n) h = ap₂ _||_ (any-same P Q n (λ i l. h i (omega arith))) (h n (omega arith))
 
 module _ {link label : List ℕ} {links v : ℕ} {a b c d : List ℕ} (D : Declared link links) (S : Spread link label links v a)
-    (O : Outward link label links a b) (T : Stayed link label links b c) (G : Gathered c d) where
+    (O : Outward link label links a b) (T : Stayed link label links b c) (G : Gathered 16 c d) where
   -- no link starts past the nodes
   none-past : (u k : ℕ) → 16 ≤ u → anyBelow links (goesOn link label u k) ≡ false
   unfolding goesOn

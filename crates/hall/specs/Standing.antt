@@ -6,7 +6,7 @@ use mathlib.Core.Bool.{Bool, true, false, _||_, _&&_, not}
 use mathlib.Core.List.{List}
 use Prim.Native.Nat.{ℕ, _<_, _≤_}
 use lib.Dec.{eqb}
-use lib.ListN.{length}
+use lib.ListN.{length, getD}
 use Rattle.meaning.specs.Search.{anyBelow}
 use Rattle.meaning.specs.Labels.{on}
 use Rattle.meaning.specs.Questions.{isOut, isLost}
@@ -40,33 +40,40 @@ pub record TakenAway (label : List ℕ) (l s : ℕ) (before after : List ℕ) : 
 abbrev pub Kept : List ℕ → List ℕ → Type 0
 Kept before after = (u k : ℕ) → u < 18 → k < 512 → on before u k ≡ true → on after u k ≡ true
 
--- the atoms that stood at the source of a link to a node, one of the first n links, and are on the link, stand at the node
+-- each node's links to nodes, as a set of links, a bit for each
+pub record Leaving (link : List ℕ) (links : ℕ) (leaving : List ℕ) : Type 0 where
+  pub size : length leaving ≡ 16
+  pub all : (l : ℕ) → l < links → endIn link l < 16 → among (getD leaving (sourceIn link l) 0) l ≡ true
+  pub only : (u l : ℕ) → u < 16 → l < 64 → among (getD leaving u 0) l ≡ true → l < links
+
+-- the atoms that stood at the source of a link to a node, and are on the link, stand at the node
 abbrev pub Took : List ℕ → List ℕ → ℕ → List ℕ → List ℕ → Type 0
-Took link label n before after = (l k : ℕ) → l < n → k < 512 → endIn link l < 16 → on before (sourceIn link l) k ≡ true → on label l k ≡ true → on after (endIn link l) k ≡ true
+Took link label links before after = (l k : ℕ) → l < links → k < 512 → endIn link l < 16 → on before (sourceIn link l) k ≡ true → on label l k ≡ true → on after (endIn link l) k ≡ true
 
--- of the first n links, those from other nodes than these have carried on all their atoms
-pub record SettledBut (link label : List ℕ) (n nodes : ℕ) (stand : List ℕ) : Type 0 where
-  pub on-all : (l k : ℕ) → l < n → k < 512 → endIn link l < 16 → among nodes (sourceIn link l) ≡ false → on stand (sourceIn link l) k ≡ true → on label l k ≡ true
+-- all links to nodes but those of a set, each of them declared, have carried on all their atoms
+pub record SettledBut (link label : List ℕ) (links but : ℕ) (stand : List ℕ) : Type 0 where
+  pub on-all : (l k : ℕ) → l < links → k < 512 → endIn link l < 16 → among but l ≡ false → on stand (sourceIn link l) k ≡ true → on label l k ≡ true
       → on stand (endIn link l) k ≡ true
+  pub declared : (l : ℕ) → l < 64 → among but l ≡ true → l < links
 
--- link l, where it starts at a node of `nodes` and leads to a node, has carried its atoms on; the rows that grew are in `more`
-pub record Along (link label : List ℕ) (l nodes : ℕ) (before after : List ℕ) (more : ℕ) : Type 0 where
+-- link l, where it leads to a node, has carried its atoms on; the links from a row that grew are in `more`, each of them declared
+pub record Along (link label : List ℕ) (links l : ℕ) (before after : List ℕ) (more : ℕ) : Type 0 where
   pub size : length after ≡ 144
   pub kept : Kept before after
   pub only : (u k : ℕ) → u < 18 → k < 512 → on after u k ≡ true
       → (on before u k ≡ true) ⊎ ((u ≡ endIn link l) × (u < 16) × (on before (sourceIn link l) k ≡ true) × (on label l k ≡ true))
-  pub took : (k : ℕ) → k < 512 → endIn link l < 16 → among nodes (sourceIn link l) ≡ true → on before (sourceIn link l) k ≡ true → on label l k ≡ true
-      → on after (endIn link l) k ≡ true
-  pub still : (u k : ℕ) → u < 18 → k < 512 → among more u ≡ false → on after u k ≡ on before u k
+  pub took : (k : ℕ) → k < 512 → endIn link l < 16 → on before (sourceIn link l) k ≡ true → on label l k ≡ true → on after (endIn link l) k ≡ true
+  pub still : (m k : ℕ) → m < links → k < 512 → endIn link m < 16 → among more m ≡ false → on after (sourceIn link m) k ≡ on before (sourceIn link m) k
+  pub declared : (m : ℕ) → m < 64 → among more m ≡ true → m < links
 
--- a round over the first n of the links: no atom stands where its walk does not come to, and what stood before the round has moved on once.
--- What is still to be carried on stands at the nodes of `next`
-pub record Round (link label : List ℕ) (links n : ℕ) (before after : List ℕ) (next : ℕ) : Type 0 where
+-- a round: no atom stands where its walk does not come to, and what stood before the round has moved on once.
+-- What is still to be carried on is carried by the links of `next`
+pub record Round (link label : List ℕ) (links : ℕ) (before after : List ℕ) (next : ℕ) : Type 0 where
   pub size : length after ≡ 144
   pub kept : Kept before after
   pub reached : (owner : List ℕ) (nodes v : ℕ) → Carries link label owner links nodes → Reached link owner v before → Reached link owner v after
-  pub took : Took link label n before after
-  pub settled : SettledBut link label n next after
+  pub took : Took link label links before after
+  pub settled : SettledBut link label links next after
 
 -- each node's row has the atoms whose walks from v come to it
 pub record Spread (link label : List ℕ) (links v : ℕ) (stand : List ℕ) : Type 0 where
@@ -85,9 +92,15 @@ pub record Stayed (link label : List ℕ) (n : ℕ) (before after : List ℕ) : 
   pub size : length after ≡ 144
   pub member : (u k : ℕ) → u < 18 → k < 512 → on after u k ≡ on before u k && not (anyBelow n (goesOn link label u k))
 
--- the atoms of the nodes' rows have joined row 17
-pub record Gathered (before after : List ℕ) : Type 0 where
-  pub lost : (k : ℕ) → k < 512 → on after 17 k ≡ on before 17 k || anyBelow 16 (λ u. on before u k)
+-- the atoms of row v have joined row 17
+pub record GatheredRow (v : ℕ) (before after : List ℕ) : Type 0 where
+  pub size : length after ≡ 144
+  pub member : (u k : ℕ) → u < 18 → k < 512 → on after u k ≡ on before u k || (eqb u 17 && on before v k)
+
+-- the atoms of the first n rows have joined row 17
+pub record Gathered (n : ℕ) (before after : List ℕ) : Type 0 where
+  pub size : length after ≡ 144
+  pub lost : (k : ℕ) → k < 512 → on after 17 k ≡ on before 17 k || anyBelow n (λ u. on before u k)
   pub else : (u k : ℕ) → u < 17 → k < 512 → on after u k ≡ on before u k
 
 -- row 16 has the atoms that go out from v, and row 17 those that are lost

@@ -8,8 +8,7 @@ ghost use lib.ListN.{length};
 ghost use Rattle.meaning.specs.Hall.{zeroes};
 ghost use Rattle.meaning.specs.Labels.{on};
 ghost use Rattle.meaning.proofs.Owners.{Words};
-ghost use Rattle.meaning.proofs.Carried.{sourceIn};
-ghost use Rattle.hall.specs.Standing.{Declared, Filled, Joined, TakenAway, Along, SettledBut, Round, Spread, Outward, Stayed, Gathered, Divided};
+ghost use Rattle.hall.specs.Standing.{Declared, Filled, Joined, TakenAway, Leaving, Along, SettledBut, Round, Spread, Outward, Stayed, GatheredRow, Gathered, Divided};
 
 // Whether an atom is in a row.
 pub fn in_row(stand: &[u64; 144], row: usize, atom: usize) -> bool
@@ -32,81 +31,93 @@ fn fill_row(stand: &mut [u64; 144], v: usize)
     }
 }
 
-// The atoms of row s that are on link l join row r. Returns 0 where row r had them all.
-fn join_row(label: &[u64; 512], l: usize, stand: &mut [u64; 144], s: usize, r: usize) -> u64
-    requires { ⌜ (l < 64) × (s < 16) × (r < 18) × (length (now stand) ≡ 144) ⌝ }
-    ensures { λ more. ⌜ Joined (now (label .entry)) l s r (now (stand .entry)) (now (stand .exit)) more ⌝ }
+// The atoms of a source's row that are on link l join a row. Returns 0 where it had them all.
+fn join_row(label: &[u64; 512], l: usize, stand: &mut [u64; 144], source: usize, row: usize) -> u64
+    requires { ⌜ (l < 64) × (source < 16) × (row < 18) × (length (now stand) ≡ 144) ⌝ }
+    ensures { λ more. ⌜ Joined (now (label .entry)) l source row (now (stand .entry)) (now (stand .exit)) more ⌝ }
 {
     let mut more: u64 = 0;
     let mut j: usize = 0;
     while j < 8 {
-        let old = stand[8 * r + j];
-        let new = old | (stand[8 * s + j] & label[8 * l + j]);
+        let old = stand[8 * row + j];
+        let new = old | (stand[8 * source + j] & label[8 * l + j]);
         more |= new ^ old;
-        stand[8 * r + j] = new;
+        stand[8 * row + j] = new;
         j += 1;
     }
     more
 }
 
-// The atoms that are on link l are taken out of row s.
-fn take_row(label: &[u64; 512], l: usize, stand: &mut [u64; 144], s: usize)
-    requires { ⌜ (l < 64) × (s < 16) × (length (now stand) ≡ 144) × Words (now label) ⌝ }
-    ensures { λ r. ⌜ TakenAway (now (label .entry)) l s (now (stand .entry)) (now (stand .exit)) ⌝ }
+// The atoms that are on link l are taken out of its source's row.
+fn take_row(label: &[u64; 512], l: usize, stand: &mut [u64; 144], source: usize)
+    requires { ⌜ (l < 64) × (source < 16) × (length (now stand) ≡ 144) × Words (now label) ⌝ }
+    ensures { λ r. ⌜ TakenAway (now (label .entry)) l source (now (stand .entry)) (now (stand .exit)) ⌝ }
 {
     let mut j: usize = 0;
     while j < 8 {
-        stand[8 * s + j] &= !label[8 * l + j];
+        stand[8 * source + j] &= !label[8 * l + j];
         j += 1;
     }
 }
 
-// Where link l leads to a node and starts at a node of `from`, its atoms move along it. Returns the node that got more, as a set.
+// For each node the links that lead from it to a node, as a set, a bit for each link.
+fn leaving_links(link: &[u16; 64], links: usize, leaving: &mut [u64; 16])
+    requires { ⌜ Declared (now link) links × (now leaving ≡ zeroes 16) ⌝ }
+    ensures { λ r. ⌜ Leaving (now (link .entry)) links (now (leaving .exit)) ⌝ }
+{
+    let mut l: usize = 0;
+    while l < links {
+        let word = link[l];
+        if word % 1024 < 16 {
+            leaving[crate::link::source_of(word)] |= 1u64 << l;
+        }
+        l += 1;
+    }
+}
+
+// Link l carries its atoms on, if it leads to a node. Returns the links that leave the node, where it got more, and else none.
 fn spread_along(
     link: &[u16; 64],
     label: &[u64; 512],
-    l: usize,
+    links: usize,
+    leaving: &[u64; 16],
     stand: &mut [u64; 144],
-    from: u16,
-) -> u16
-    requires { ⌜ (l < 64) × (sourceIn (now link) l < 16) × (length (now stand) ≡ 144) ⌝ }
-    ensures { λ more. ⌜ Along (now (link .entry)) (now (label .entry)) l from (now (stand .entry)) (now (stand .exit)) more ⌝ }
+    l: usize,
+) -> u64
+    requires { ⌜ (l < links) × Declared (now link) links × Leaving (now link) links (now leaving) × (length (now stand) ≡ 144) ⌝ }
+    ensures { λ more. ⌜ Along (now (link .entry)) (now (label .entry)) links l (now (stand .entry)) (now (stand .exit)) more ⌝ }
 {
     let word = link[l];
-    let s = crate::link::source_of(word);
-    if (from >> s) % 2 == 0 {
-        return 0;
-    }
     let end = word % 1024;
     if 15 < end {
         return 0;
     }
-    if join_row(label, l, stand, s, end as usize) == 0 {
+    let source = crate::link::source_of(word);
+    if join_row(label, l, stand, source, end as usize) == 0 {
         return 0;
     }
-    1u16 << end
+    leaving[end as usize]
 }
 
-// One round: each link from a node whose row has grown, in `from` or in this round, carries its atoms on. Returns the nodes whose rows
-// grew in this round.
+// One round: each link of `from` carries its atoms on. Returns the links that leave the nodes whose rows grew.
 fn spread_once(
     link: &[u16; 64],
     label: &[u64; 512],
     links: usize,
+    leaving: &[u64; 16],
     stand: &mut [u64; 144],
-    from: u16,
-) -> u16
-    requires { ⌜ Declared (now link) links × (length (now stand) ≡ 144) × SettledBut (now link) (now label) links from (now stand) ⌝ }
-    ensures { λ next. ⌜ Round (now (link .entry)) (now (label .entry)) links links (now (stand .entry)) (now (stand .exit)) next ⌝ }
+    from: u64,
+) -> u64
+    requires { ⌜ Declared (now link) links × Leaving (now link) links (now leaving) × (length (now stand) ≡ 144) × SettledBut (now link) (now label) links from (now stand) ⌝ }
+    ensures { λ next. ⌜ Round (now (link .entry)) (now (label .entry)) links (now (stand .entry)) (now (stand .exit)) next ⌝ }
 {
-    let mut grown = from;
-    let mut next: u16 = 0;
-    let mut l: usize = 0;
-    while l < links {
-        let more = spread_along(link, label, l, stand, grown);
-        grown |= more;
-        next |= more;
-        l += 1;
+    let mut left = from;
+    let mut next: u64 = 0;
+    let mut l = u64::trailing_zeros(left) as usize;
+    while l < 64 {
+        left &= !(1u64 << l);
+        next |= spread_along(link, label, links, leaving, stand, l);
+        l = u64::trailing_zeros(left) as usize;
     }
     next
 }
@@ -118,10 +129,12 @@ fn spread(link: &[u16; 64], label: &[u64; 512], links: usize, stand: &mut [u64; 
     ensures { λ r. ⌜ Spread (now (link .entry)) (now (label .entry)) links v (now (stand .exit)) ⌝ }
 {
     fill_row(stand, v);
-    let mut from: u16 = 1u16 << v;
+    let mut leaving = [0u64; 16];
+    leaving_links(link, links, &mut leaving);
+    let mut from = leaving[v];
     let mut i: usize = 0;
     while i < 15 {
-        from = spread_once(link, label, links, stand, from);
+        from = spread_once(link, label, links, &leaving, stand, from);
         if from == 0 {
             return;
         }
@@ -160,15 +173,27 @@ fn stay(link: &[u16; 64], label: &[u64; 512], links: usize, stand: &mut [u64; 14
     }
 }
 
-// The atoms of the nodes' rows join row 17.
+// The atoms of node v's row join row 17.
+fn gather_row(stand: &mut [u64; 144], v: usize)
+    requires { ⌜ (v < 16) × (length (now stand) ≡ 144) ⌝ }
+    ensures { λ r. ⌜ GatheredRow v (now (stand .entry)) (now (stand .exit)) ⌝ }
+{
+    let mut j: usize = 0;
+    while j < 8 {
+        stand[136 + j] |= stand[8 * v + j];
+        j += 1;
+    }
+}
+
+// The atoms of all nodes' rows join row 17.
 fn gather(stand: &mut [u64; 144])
     requires { ⌜ length (now stand) ≡ 144 ⌝ }
-    ensures { λ r. ⌜ Gathered (now (stand .entry)) (now (stand .exit)) ⌝ }
+    ensures { λ r. ⌜ Gathered 16 (now (stand .entry)) (now (stand .exit)) ⌝ }
 {
-    let mut i: usize = 0;
-    while i < 128 {
-        stand[136 + i % 8] |= stand[i];
-        i += 1;
+    let mut v: usize = 0;
+    while v < 16 {
+        gather_row(stand, v);
+        v += 1;
     }
 }
 

@@ -140,10 +140,13 @@ clear-bit w b j hb hj =
     ap (λ (x : ℕ). eqb x 1) (bit-and w (2 ^ 64 - 1 - 2 ^ b) j ∙ ap (min (bit w j)) (bit-not 64 (2 ^ b) j (pow-lt hb) hj ∙ ap (λ (x : ℕ). 1 - x) (bit-power b j)))
     ∙ and-digit (bit w j) (eqb b j) (bit-lt w j)
 
--- `1 << u` at 16 bits
+-- `1 << u` at 16 bits, and `1 << l` at 64
 pub mask-node : (u : ℕ) → u < 16 → 1 * 2 ^ u % 65536 ≡ 2 ^ u
 mask-node u h = ap (λ (x : ℕ). x % 65536) (one-mul (2 ^ u)) ∙ mod-eq-of-lt (pow-lt {j = 16} h)
 
+pub mask-link : (l : ℕ) → l < 64 → 1 * 2 ^ l % 2 ^ 64 ≡ 2 ^ l
+mask-link l h = ap (λ (x : ℕ). x % 2 ^ 64) (one-mul (2 ^ l)) ∙ mod-eq-of-lt (pow-lt {j = 64} h)
+
 -- `1 << (k % 64)` at 64 bits: no side condition, so `rw mask` closes what a shift leaves
 pub mask : (k : ℕ) → 1 * 2 ^ (k % 64) % 2 ^ 64 ≡ 2 ^ (k % 64)
-mask k = ap (λ (x : ℕ). x % 2 ^ 64) (one-mul (2 ^ (k % 64))) ∙ mod-eq-of-lt (pow-lt (mod-lt k (zero-lt-suc 63)))
+mask k = mask-link (k % 64) (mod-lt k (zero-lt-suc 63))

@@ -1,40 +1,27 @@
--- `stand::gather` meets its contract, word by word. Assumes nothing.
+-- `stand::gather` meets its contract. The loop's invariant: the rows below v are gathered. Assumes nothing.
 use Prim.Native.Nat.{_-_, _≤_}
+use mathlib.Core.Path.{_≡_}
 use native.Mathlib.Omega.{arith}
-use Rattle.hall.proofs.Standing.{Gathering, gathering-none, gathering-more, gathered}
+use Rattle.hall.specs.Standing.{Gathered}
+use Rattle.hall.proofs.Standing.{gathered-none, gathered-more}
 use borrow.Author.Needs.{needs}
 use Rattle.hall.proofs.stand.gather.Statement.{statement}
 use Rattle.hall.proofs.stand.gather.Tie as tie
 
 abbrev Inv-loop : tie.InvT-loop
-Inv-loop stand₀ i₀ stand i = (i ≤ 128) × Gathering stand₀ stand i
+Inv-loop stand₀ v₀ stand v = (v ≤ 16) × Gathered v stand₀ stand
 
 abbrev μ-loop : tie.MeasureT-loop
-μ-loop stand₀ i₀ stand i = 128 - i
+μ-loop stand₀ v₀ stand v = 16 - v
 
 loop-holds : tie.Need-loop-holds Inv-loop μ-loop
-loop-holds c = (omega arith, gathering-none _ (c .pre))
+loop-holds c = (omega arith, gathered-none _ (c .pre))
 
-mul-stand : tie.Need-mul-stand Inv-loop μ-loop
-mul-stand c = search needs
+gather-row-requires : tie.Need-gather-row-requires Inv-loop μ-loop
+gather-row-requires c κs = (omega arith, c .before .before .loop .inv .1 .size)
 
-element-copy-out-stand : tie.Need-element-copy-out-stand Inv-loop μ-loop
-element-copy-out-stand c = search needs
-
-add-stand : tie.Need-add-stand Inv-loop μ-loop
-add-stand c = search needs
-
-mul-stand-2 : tie.Need-mul-stand-2 Inv-loop μ-loop
-mul-stand-2 c = search needs
-
-element-copy-out-stand-2 : tie.Need-element-copy-out-stand-2 Inv-loop μ-loop
-element-copy-out-stand-2 c = search needs
-
-element-write-stand : tie.Need-element-write-stand Inv-loop μ-loop
-element-write-stand c = search needs
-
-add-i : tie.Need-add-i Inv-loop μ-loop
-add-i c = search needs
+add-v : tie.Need-add-v Inv-loop μ-loop
+add-v c = search needs
 
 loop-less : tie.Need-loop-less Inv-loop μ-loop
 loop-less c = search needs
@@ -42,25 +29,15 @@ loop-less c = search needs
 loop-again : tie.Need-loop-again Inv-loop μ-loop
 loop-again c =
     let l = c .before .before .before in
-    (omega arith, gathering-more (l .loop .inv .1) (omega arith))
+    (omega arith, gathered-more (l .loop .inv .1) (omega arith) (c .gather-row .ensures))
 
 returns : tie.Need-returns Inv-loop μ-loop
-returns c = gathered (c .before .loop .inv .1) (omega arith)
+returns c =
+    let l = c .before in
+    let e : l .loop .v ≡ 16 = omega arith in
+    rw e at (l .loop .inv .1)
 
 pub gather-spec : {M : Type 1} → statement M
 gather-spec =
     tie.close
-    (tie.spec
-    Inv-loop
-    μ-loop
-    loop-holds
-    mul-stand
-    element-copy-out-stand
-    add-stand
-    mul-stand-2
-    element-copy-out-stand-2
-    element-write-stand
-    add-i
-    loop-less
-    loop-again
-    returns)
+    (tie.spec Inv-loop μ-loop loop-holds gather-row-requires add-v loop-less loop-again returns)

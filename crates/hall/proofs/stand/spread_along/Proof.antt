@@ -2,7 +2,7 @@
 use mathlib.Core.Path.{refl}
 use native.Mathlib.Omega.{arith}
 use Rattle.meaning.proofs.Owners.{endIn}
-use Rattle.hall.proofs.Standing.{away, along-none, along-still, along-new}
+use Rattle.hall.proofs.Standing.{along-none, along-still, along-new}
 use borrow.Author.Needs.{needs}
 use Rattle.hall.proofs.stand.spread_along.Statement.{statement}
 use Rattle.hall.proofs.stand.spread_along.Tie as tie
@@ -13,44 +13,42 @@ mul-word c = search needs
 element-copy-out-word : tie.Need-element-copy-out-word
 element-copy-out-word c = search needs
 
+returns : tie.Need-returns
+unfolding endIn
+returns c = along-none _ _ _ _ _ (c .before .before .pre .3) (λ h. omega (arith, h, c .if1 .taken))
+
 source-of-requires : tie.Need-source-of-requires
 source-of-requires c κs = search needs
-
-cast-if1 : tie.Need-cast-if1
-cast-if1 c = search needs
-
-shr-if1 : tie.Need-shr-if1
-shr-if1 c = search needs
-
-returns : tie.Need-returns
-returns c = along-none _ _ _ _ _ (c .before .before .before .pre .2) (λ h g. away _ _ _ (c .before .source-of .ensures .0) (c .if1 .taken) g)
-
-returns-2 : tie.Need-returns-2
-unfolding endIn
-returns-2 c = along-none _ _ _ _ _ (c .before .before .before .before .pre .2) (λ h g. omega (arith, h, c .if2 .taken))
 
 cast-join-row : tie.Need-cast-join-row
 cast-join-row c = search needs
 
 join-row-requires : tie.Need-join-row-requires
 join-row-requires c κs =
-    let p = c .before .before .before .before .before .pre in
-    (p .0, rw (c .before .before .before .source-of .ensures .0) (p .1), omega (arith, c .before .if2 .left), p .2)
+    let p = c .before .before .before .before .pre in
+    (omega (arith, p .0, p .1 .few), rw (c .before .source-of .ensures .0) (p .1 .source _ (p .0)), omega (arith, c .before .before .if1 .left), p .3)
+
+returns-2 : tie.Need-returns-2
+unfolding endIn
+returns-2 c =
+    let s = c .before .before .before in
+    along-still (s .before .before .before .pre .1) (c .before .join-row .ensures) (s .source-of .ensures .0) refl (omega (arith, s .before .if1 .left)) (c .if2 .taken)
+
+cast-result : tie.Need-cast-result
+cast-result c = search needs
+
+mul-result : tie.Need-mul-result
+mul-result c = search needs
+
+element-copy-out-result : tie.Need-element-copy-out-result
+element-copy-out-result c = search needs
 
 returns-3 : tie.Need-returns-3
 unfolding endIn
 returns-3 c =
-    let t = c .before .before .before in
-    along-still (c .before .join-row .ensures) (t .before .before .source-of .ensures .0) refl (omega (arith, t .if2 .left)) (c .if3 .taken)
-
-shl-result : tie.Need-shl-result
-shl-result c = omega (arith, c .before .before .before .if2 .left)
-
-returns-4 : tie.Need-returns-4
-unfolding endIn
-returns-4 c =
-    let t = c .before .before .before in
-    along-new (c .before .join-row .ensures) (t .before .before .source-of .ensures .0) refl (omega (arith, t .if2 .left))
+    let s = c .before .before .before .before in
+    let p = s .before .before .before .pre in
+    along-new (p .1) (c .before .before .join-row .ensures) (s .source-of .ensures .0) refl (omega (arith, s .before .if1 .left)) _ (p .2)
 
 pub spread-along-spec : {M : Type 1} → statement M
 spread-along-spec =
@@ -58,13 +56,12 @@ spread-along-spec =
     (tie.spec
     mul-word
     element-copy-out-word
-    source-of-requires
-    cast-if1
-    shr-if1
     returns
-    returns-2
+    source-of-requires
     cast-join-row
     join-row-requires
-    returns-3
-    shl-result
-    returns-4)
+    returns-2
+    cast-result
+    mul-result
+    element-copy-out-result
+    returns-3)
