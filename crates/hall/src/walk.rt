@@ -1,10 +1,11 @@
 // The walk of a packet to one atom: at a node it takes the owner's link, and at the link's end it stands at the node, or has ended.
 use meaning::Fate;
+ghost use mathlib.Core.Bool.{true, false};
 ghost use mathlib.Core.Path.{_≡_};
 ghost use Prim.Native.Nat.{ℕ, _+_, _-_, _<_, _≤_};
 ghost use Rattle.meaning.specs.Walk.{at, move, arrive, told, fateIn, comesTo};
 ghost use Rattle.meaning.proofs.Owners.{nextIn, endIn, Ends};
-ghost use Rattle.meaning.proofs.Moving.{Off};
+ghost use Rattle.meaning.proofs.Moving.{among, Off};
 ghost use Rattle.hall.specs.Moves.{led, seen, Comes};
 
 // Where one move leads: to a node, or to an end.
@@ -82,15 +83,20 @@ pub enum Seen {
     Off(u16),
 }
 
+// The first node from v on that is none of `off`, or 16 or more for none.
+pub fn next_on(off: u16, v: u8) -> u8
+    requires { ⌜ v ≤ 16 ⌝ }
+    ensures { λ r. ⌜ (v ≤ r) × ((x : ℕ) → v ≤ x → x < r → among off x ≡ true) × (r < 16 → among off r ≡ false) ⌝ }
+{
+    v + u64::trailing_zeros(!((off as u64) >> v)) as u8
+}
+
 // Whether node v lies on a circle of an atom. Where its walk ends, or comes to a node of `off`, the nodes passed lie on none and join
 // `off`: so no node is walked from again that is seen to end.
 pub fn look(link: &[u16; 64], owner: &[u16; 8192], atom: usize, n: u8, v: u8, off: u16) -> Seen
     requires { ⌜ (atom < 512) × (v < 16) × (n ≤ 16) × Ends (now link) (now owner) × Off (nextIn (now owner) atom) (endIn (now link)) n off ⌝ }
     ensures { λ r. ⌜ seen (nextIn (now (owner .entry)) atom) (endIn (now (link .entry))) n v r ⌝ }
 {
-    if (off >> v) % 2 == 1 {
-        return Seen::Off(off);
-    }
     let mut here = v;
     let mut passed = off;
     let mut i: u8 = 0;

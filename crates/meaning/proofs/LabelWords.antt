@@ -122,7 +122,7 @@ count-word label l i h =
 -- ---- the lowest one of a word
 
 -- every bit below a number's trailing zeros is 0
-trailing-below : (k w j : ℕ) → j < trailingZeros k w → bit w j ≡ 0
+pub trailing-below : (k w j : ℕ) → j < trailingZeros k w → bit w j ≡ 0
 unfolding trailingZeros
 trailing-below zero w j h = absurd (not-suc-le-zero h)
 trailing-below (suc k) w j h = go (w % 2) refl j h (λ i l. trailing-below k (w / 2) i l)
@@ -133,7 +133,7 @@ trailing-below (suc k) w j h = go (w % 2) refl j h (λ i l. trailing-below k (w 
     go (suc d) e i l rest = absurd (not-suc-le-zero l)
 
 -- and the bit there is 1, where there is one
-trailing-at : (k w : ℕ) → trailingZeros k w < k → bit w (trailingZeros k w) ≡ 1
+pub trailing-at : (k w : ℕ) → trailingZeros k w < k → bit w (trailingZeros k w) ≡ 1
 unfolding trailingZeros
 trailing-at zero w h = absurd (not-suc-le-zero h)
 trailing-at (suc k) w h = go (w % 2) refl h (trailing-at k (w / 2))

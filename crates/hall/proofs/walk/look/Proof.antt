@@ -18,18 +18,9 @@ Inv-loop link owner atom n v off here₀ passed₀ i₀ here passed i = (i ≤ n
 abbrev μ-loop : tie.MeasureT-loop
 μ-loop link owner atom n v off here₀ passed₀ i₀ here passed i = n - i
 
-shr-if1 : tie.Need-shr-if1 Inv-loop μ-loop
-shr-if1 c = search needs
-
-returns : tie.Need-returns Inv-loop μ-loop
-unfolding seen
-returns c =
-    let s = c .before in
-    (s .pre .4 .none-on _ (eq-eqb _ _ (c .if1 .taken)), s .pre .4)
-
 loop-holds : tie.Need-loop-holds Inv-loop μ-loop
 unfolding after
-loop-holds c = (omega arith, omega arith, refl, (λ k h. absurd (omega arith)), trail-start _ _ _ _ _ (c .before .pre .4))
+loop-holds c = (omega arith, omega arith, refl, (λ k h. absurd (omega arith)), trail-start _ _ _ _ _ (c .pre .4))
 
 cast-passed : tie.Need-cast-passed Inv-loop μ-loop
 cast-passed c = search needs
@@ -43,37 +34,37 @@ move-from-requires c κs = search needs
 enum-known-w : tie.Need-enum-known-w Inv-loop μ-loop
 enum-known-w c = search needs
 
-returns-2 : tie.Need-returns-2 Inv-loop μ-loop
+returns : tie.Need-returns Inv-loop μ-loop
 unfolding led seen
-returns-2 c =
+returns c =
     let l = c .before .before .before .before .before .before in
     let q = rw (c .before .before .w .given .1) at (c .before .before .before .before .move-from .ensures) in
-    back-now _ _ _ _ _ (l .loop .inv .2) _ _ (omega arith) (q .0) (c .if2 .taken)
+    back-now _ _ _ _ _ (l .loop .inv .2) _ _ (omega arith) (q .0) (c .if1 .taken)
 
-cast-if3 : tie.Need-cast-if3 Inv-loop μ-loop
-cast-if3 c = search needs
+cast-if2 : tie.Need-cast-if2 Inv-loop μ-loop
+cast-if2 c = search needs
 
-shr-if3 : tie.Need-shr-if3 Inv-loop μ-loop
+shr-if2 : tie.Need-shr-if2 Inv-loop μ-loop
 unfolding led
-shr-if3 c =
+shr-if2 c =
     let q = rw (c .before .before .w .given .1) at (c .before .before .before .before .move-from .ensures) in
     q .1
 
-returns-3 : tie.Need-returns-3 Inv-loop μ-loop
+returns-2 : tie.Need-returns-2 Inv-loop μ-loop
 unfolding led seen
-returns-3 c =
+returns-2 c =
     let l = c .before .before .before .before .before .before .before in
     let q = rw (c .before .before .before .w .given .1) at (c .before .before .before .before .before .move-from .ensures) in
-    let off = l .before .before .pre .4 .none-on _ (eq-eqb _ _ (c .if3 .taken)) in
+    let off = l .before .pre .4 .none-on _ (eq-eqb _ _ (c .if2 .taken)) in
     let to = trail-on _ _ _ _ _ (trail-here _ _ _ _ _ (l .loop .inv .1) (l .loop .inv .4)) _ (q .0) in
     (off-before _ _ _ _ _ _ (step-to _ _ _ _ _ (l .loop .inv .2) _ (q .0)) off, trail-off _ _ _ _ _ to off)
 
 enum-told : tie.Need-enum-told Inv-loop μ-loop
 enum-told c = search needs
 
-returns-4 : tie.Need-returns-4 Inv-loop μ-loop
+returns-3 : tie.Need-returns-3 Inv-loop μ-loop
 unfolding led seen
-returns-4 c =
+returns-3 c =
     let l = c .before .before .before .before in
     let q = rw (c .enum-told .given .1) at (c .before .before .move-from .ensures) in
     let off = no-circle _ _ _ q _ in
@@ -90,13 +81,13 @@ unfolding led
 loop-again c =
     let l = c .before .before .before .before .before .before .before in
     let q = rw (c .before .before .before .w .given .1) at (c .before .before .before .before .before .move-from .ensures) in
-    let b = not-back _ _ _ _ _ (l .loop .inv .2) (l .loop .inv .3) _ (q .0) (c .before .if2 .left) in
+    let b = not-back _ _ _ _ _ (l .loop .inv .2) (l .loop .inv .3) _ (q .0) (c .before .if1 .left) in
     let to = trail-on _ _ _ _ _ (trail-here _ _ _ _ _ (l .loop .inv .1) (l .loop .inv .4)) _ (q .0) in
     (omega arith, q .1, step-to _ _ _ _ _ (l .loop .inv .2) _ (q .0), b, to)
 
-returns-5 : tie.Need-returns-5 Inv-loop μ-loop
+returns-4 : tie.Need-returns-4 Inv-loop μ-loop
 unfolding seen onCircle
-returns-5 c = (none-below _ _ _ (c .before .loop .inv .3) (omega arith), c .before .before .before .pre .4)
+returns-4 c = (none-below _ _ _ (c .before .loop .inv .3) (omega arith), c .before .before .pre .4)
 
 pub look-spec : {M : Type 1} → statement M
 look-spec =
@@ -104,20 +95,18 @@ look-spec =
     (tie.spec
     Inv-loop
     μ-loop
-    shr-if1
-    returns
     loop-holds
     cast-passed
     shl-passed
     move-from-requires
     enum-known-w
+    returns
+    cast-if2
+    shr-if2
     returns-2
-    cast-if3
-    shr-if3
-    returns-3
     enum-told
-    returns-4
+    returns-3
     add-i
     loop-less
     loop-again
-    returns-5)
+    returns-4)
