@@ -6,7 +6,7 @@ ghost use Prim.Native.Nat.{ℕ, _+_, _-_, _<_, _≤_};
 ghost use Rattle.meaning.specs.Walk.{at, move, arrive, told, fateIn, comesTo};
 ghost use Rattle.meaning.proofs.Owners.{nextIn, endIn, Ends};
 ghost use Rattle.meaning.proofs.Moving.{among, Off};
-ghost use Rattle.hall.specs.Moves.{led, seen, Comes};
+ghost use Rattle.hall.specs.Moves.{led, seen, Below, Comes};
 
 // Where one move leads: to a node, or to an end.
 pub enum Led {
@@ -83,25 +83,24 @@ pub enum Seen {
     Off(u16),
 }
 
-// The first node from v on that is none of `off`, or 16 or more for none.
-pub fn next_on(off: u16, v: u8) -> u8
-    requires { ⌜ v ≤ 16 ⌝ }
-    ensures { λ r. ⌜ (v ≤ r) × ((x : ℕ) → v ≤ x → x < r → among off x ≡ true) × (r < 16 → among off r ≡ false) ⌝ }
+// The lowest node that is none of `off`, or 16 for none.
+pub fn first_on(off: u16) -> u8
+    ensures { λ r. ⌜ (r ≤ 16) × Below off r × (r < 16 → among off r ≡ false) ⌝ }
 {
-    v + u64::trailing_zeros(!((off as u64) >> v)) as u8
+    u16::trailing_zeros(!off) as u8
 }
 
 // Whether node v lies on a circle of an atom. Where its walk ends, or comes to a node of `off`, the nodes passed lie on none and join
-// `off`: so no node is walked from again that is seen to end.
+// `off`: so no node is walked from again that is seen to end. Where it goes round elsewhere, v alone joins.
 pub fn look(link: &[u16; 64], owner: &[u16; 8192], atom: usize, n: u8, v: u8, off: u16) -> Seen
     requires { ⌜ (atom < 512) × (v < 16) × (n ≤ 16) × Ends (now link) (now owner) × Off (nextIn (now owner) atom) (endIn (now link)) n off ⌝ }
-    ensures { λ r. ⌜ seen (nextIn (now (owner .entry)) atom) (endIn (now (link .entry))) n v r ⌝ }
+    ensures { λ r. ⌜ seen (nextIn (now (owner .entry)) atom) (endIn (now (link .entry))) n v off r ⌝ }
 {
+    let start = off | 1u16 << v;
     let mut here = v;
-    let mut passed = off;
+    let mut passed = start;
     let mut i: u8 = 0;
     while i < n {
-        passed |= 1u16 << here;
         match move_from(link, owner, atom, here) {
             Led::To(w) => {
                 if w == v {
@@ -111,6 +110,7 @@ pub fn look(link: &[u16; 64], owner: &[u16; 8192], atom: usize, n: u8, v: u8, of
                     return Seen::Off(passed);
                 }
                 here = w;
+                passed |= 1u16 << w;
             }
             Led::Ended => {
                 return Seen::Off(passed);
@@ -118,7 +118,7 @@ pub fn look(link: &[u16; 64], owner: &[u16; 8192], atom: usize, n: u8, v: u8, of
         }
         i += 1;
     }
-    Seen::Off(off)
+    Seen::Off(start)
 }
 
 // Whether the walk to an atom from node v stands at node w at some time, the start counted. Where the walk comes to a node that is none
