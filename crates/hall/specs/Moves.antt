@@ -16,10 +16,18 @@ unfoldable pub led : Led → Place → Type 0
 led (To w) p = (p ≡ at w) × (w < 16)
 led Ended p = (w : ℕ) → p ≡ at w → ⊥
 
--- node v lies on a circle; or it does not, and neither do these
-unfoldable pub seen : (ℕ → Option ℕ) → (ℕ → ℕ) → ℕ → ℕ → Seen → Type 0
-seen next end n v Circle = onCircle next end n v ≡ true
-seen next end n v (off nodes) = (onCircle next end n v ≡ false) × Off next end n nodes
+-- every node below v is one of a set
+abbrev pub Below : ℕ → ℕ → Type 0
+Below nodes v = (x : ℕ) → x < v → among nodes x ≡ true
+
+-- every node of a set is one of another
+abbrev pub Within : ℕ → ℕ → Type 0
+Within nodes more = (x : ℕ) → among nodes x ≡ true → among more x ≡ true
+
+-- node v lies on a circle; or none of these does, node v and the nodes of a set among them
+unfoldable pub seen : (ℕ → Option ℕ) → (ℕ → ℕ) → ℕ → ℕ → ℕ → Seen → Type 0
+seen next end n v nodes Circle = onCircle next end n v ≡ true
+seen next end n v nodes (off more) = Off next end n more × (among more v ≡ true) × Within nodes more
 
 -- each of 16 nodes from which the walk comes to w is one of `to`
 pub record Comes (next : ℕ → Option ℕ) (end : ℕ → ℕ) (w to : ℕ) : Type 0 where

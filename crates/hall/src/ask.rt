@@ -60,7 +60,7 @@ pub fn find_loop(
     'search: while p < atoms {
         let atom = crate::atom::atom_at(number, Place(p)).0 as usize;
         let mut off = never;
-        let mut v: u8 = 0;
+        let mut v = crate::walk::first_on(off);
         while v < nodes {
             match crate::walk::look(link, owner, atom, nodes, v, off) {
                 Seen::Circle => {
@@ -71,7 +71,7 @@ pub fn find_loop(
                     off = more;
                 }
             }
-            v += 1;
+            v = crate::walk::first_on(off);
         }
         p += 1;
     }

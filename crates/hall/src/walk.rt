@@ -1,11 +1,12 @@
 // The walk of a packet to one atom: at a node it takes the owner's link, and at the link's end it stands at the node, or has ended.
 use meaning::Fate;
+ghost use mathlib.Core.Bool.{true, false};
 ghost use mathlib.Core.Path.{_≡_};
 ghost use Prim.Native.Nat.{ℕ, _+_, _-_, _<_, _≤_};
 ghost use Rattle.meaning.specs.Walk.{at, move, arrive, told, fateIn, comesTo};
 ghost use Rattle.meaning.proofs.Owners.{nextIn, endIn, Ends};
-ghost use Rattle.meaning.proofs.Moving.{Off};
-ghost use Rattle.hall.specs.Moves.{led, seen, Comes};
+ghost use Rattle.meaning.proofs.Moving.{among, Off};
+ghost use Rattle.hall.specs.Moves.{led, seen, Below, Comes};
 
 // Where one move leads: to a node, or to an end.
 pub enum Led {
@@ -82,20 +83,24 @@ pub enum Seen {
     Off(u16),
 }
 
+// The lowest node that is none of `off`, or 16 for none.
+pub fn first_on(off: u16) -> u8
+    ensures { λ r. ⌜ (r ≤ 16) × Below off r × (r < 16 → among off r ≡ false) ⌝ }
+{
+    u16::trailing_zeros(!off) as u8
+}
+
 // Whether node v lies on a circle of an atom. Where its walk ends, or comes to a node of `off`, the nodes passed lie on none and join
-// `off`: so no node is walked from again that is seen to end.
+// `off`: so no node is walked from again that is seen to end. Where it goes round elsewhere, v alone joins.
 pub fn look(link: &[u16; 64], owner: &[u16; 8192], atom: usize, n: u8, v: u8, off: u16) -> Seen
     requires { ⌜ (atom < 512) × (v < 16) × (n ≤ 16) × Ends (now link) (now owner) × Off (nextIn (now owner) atom) (endIn (now link)) n off ⌝ }
-    ensures { λ r. ⌜ seen (nextIn (now (owner .entry)) atom) (endIn (now (link .entry))) n v r ⌝ }
+    ensures { λ r. ⌜ seen (nextIn (now (owner .entry)) atom) (endIn (now (link .entry))) n v off r ⌝ }
 {
-    if (off >> v) % 2 == 1 {
-        return Seen::Off(off);
-    }
+    let start = off | 1u16 << v;
     let mut here = v;
-    let mut passed = off;
+    let mut passed = start;
     let mut i: u8 = 0;
     while i < n {
-        passed |= 1u16 << here;
         match move_from(link, owner, atom, here) {
             Led::To(w) => {
                 if w == v {
@@ -105,6 +110,7 @@ pub fn look(link: &[u16; 64], owner: &[u16; 8192], atom: usize, n: u8, v: u8, of
                     return Seen::Off(passed);
                 }
                 here = w;
+                passed |= 1u16 << w;
             }
             Led::Ended => {
                 return Seen::Off(passed);
@@ -112,7 +118,7 @@ pub fn look(link: &[u16; 64], owner: &[u16; 8192], atom: usize, n: u8, v: u8, of
         }
         i += 1;
     }
-    Seen::Off(off)
+    Seen::Off(start)
 }
 
 // Whether the walk to an atom from node v stands at node w at some time, the start counted. Where the walk comes to a node that is none

@@ -1,21 +1,26 @@
 -- `ask::find_loop` meets its contract. The outer loop's invariant: no loop is found, and at no place below p a node lies on a circle.
--- The inner loop's: nor of the atom at place p a node below v or a node of `off`. Assumes nothing.
+-- The inner loop's: nor of the atom at place p a node of `off`, which every node below v is. Assumes nothing.
 use borrow.Author.Needs.{needs}
 use mathlib.Core.Path.{_≡_, refl, sym, _∙_}
+use mathlib.Core.Logic.{_⊎_, inl, inr, ⊎-elim}
+use mathlib.Core.Bool.{true, false, true≢false}
+use mathlib.Core.Option.{Option}
 use Prim.Native.Nat.{ℕ, _-_, _≤_, _<_}
+use native.Mathlib.Nat.{eq-or-lt-of-le}
 use native.Mathlib.Omega.{arith}
 use borrow.Author.Count.{below-more}
 use Rattle.meaning.specs.declared.Answer.the-variants.{NoLoop}
 use Rattle.meaning.proofs.Owners.{nextIn, endIn}
-use Rattle.meaning.proofs.Moving.{Off}
+use Rattle.meaning.proofs.Places.{le-or-lt}
+use Rattle.meaning.proofs.Moving.{among, Off}
 use Rattle.meaning.proofs.ByPlace.{linksAt, NoCircle, small-atom, ends-of, loop-none, loop-is}
-use Rattle.hall.specs.Moves.{seen}
+use Rattle.hall.specs.Moves.{seen, Below, Within}
 use Rattle.hall.proofs.Leads.{together, no-loop}
 use Rattle.hall.proofs.ask.find_loop.Statement.{statement}
 use Rattle.hall.proofs.ask.find_loop.Tie as tie
 
 abbrev Inv-loop : tie.InvT-loop
-Inv-loop link rule cut number label owner atoms nodes never answer₀ p atom off₀ v₀ answer off v = (v ≤ nodes) × (answer ≡ NoLoop) × NoCircle (nextIn owner atom) (endIn link) nodes v × Off (nextIn owner atom) (endIn link) nodes off
+Inv-loop link rule cut number label owner atoms nodes never answer₀ p atom off₀ v₀ answer off v = (answer ≡ NoLoop) × Below off v × Off (nextIn owner atom) (endIn link) nodes off
 
 abbrev μ-loop : tie.MeasureT-loop
 μ-loop link rule cut number label owner atoms nodes never answer₀ p atom off₀ v₀ answer off v = nodes - v
@@ -25,6 +30,18 @@ Inv-search link rule cut number label owner atoms nodes never answer₀ p₀ ans
 
 abbrev μ-search : tie.MeasureT-search
 μ-search link rule cut number label owner atoms nodes never answer₀ p₀ answer p = atoms - p
+
+-- the nodes of `off` lie on no circle, and every node below v is one of them
+clear : (next : ℕ → Option ℕ) (end : ℕ → ℕ) (n off v : ℕ) → Off next end n off → Below off v → NoCircle next end n v
+clear next end n off v F b u l = F .none-on u (b u l)
+
+-- where v has joined them, the lowest node that is none of them is above v
+above : (off more v r : ℕ) → v < 16 → Below off v → (among more v ≡ true) → Within off more → (r < 16 → among more r ≡ false) → v < r
+above off more v r h b e w f = ⊎-elim (λ (l : r ≤ v). absurd (true≢false (sym (go (eq-or-lt-of-le l)) ∙ f (omega arith)))) (λ (l : v < r). l) (le-or-lt r v)
+  where
+    go : (r ≡ v) ⊎ (r < v) → among more r ≡ true
+    go (inl q) = rw q e
+    go (inr l) = w r (b r l)
 
 cast-atoms : tie.Need-cast-atoms Inv-loop μ-loop Inv-search μ-search
 cast-atoms c = search needs
@@ -46,48 +63,59 @@ atom-at-requires c κs =
 cast-atom : tie.Need-cast-atom Inv-loop μ-loop Inv-search μ-search
 cast-atom c = search needs
 
+first-on-requires : tie.Need-first-on-requires Inv-loop μ-loop Inv-search μ-search
+first-on-requires c κs = search needs
+
 loop-holds : tie.Need-loop-holds Inv-loop μ-loop Inv-search μ-search
 loop-holds c =
-    let s = c .before .before .before in
+    let a = c .before .before in
+    let s = a .before .before in
     let W = s .before .before .before .before .pre in
-    let q : c .before .atom-at .result .0 < 512 = rw (c .before .atom-at .ensures) (small-atom _ _ _ W _ (omega arith)) in
-    (omega arith, s .search .inv .1, (λ u l. absurd (omega arith)), s .before .before .off-walks .ensures .each _ (together _ _ _ W) _ _ q)
+    let q : a .atom-at .result .0 < 512 = rw (a .atom-at .ensures) (small-atom _ _ _ W _ (omega arith)) in
+    let F = s .before .before .off-walks .ensures .each _ (together _ _ _ W) _ _ q in
+    (s .search .inv .1, c .first-on .ensures .1, F)
 
 look-requires : tie.Need-look-requires Inv-loop μ-loop Inv-search μ-search
 look-requires c κs =
-    let a = c .before .before .before in
+    let a = c .before .before .before .before in
     let W = a .before .before .before .before .before .before .pre in
     let q : a .atom-at .result .0 < 512 = rw (a .atom-at .ensures) (small-atom _ _ _ W _ (omega arith)) in
-    (q, omega (arith, W .sound .small), W .sound .small, ends-of _ _ _ W, c .before .loop .inv .3)
+    (q, omega (arith, W .sound .small), W .sound .small, ends-of _ _ _ W, c .before .loop .inv .2)
 
 enum-told : tie.Need-enum-told Inv-loop μ-loop Inv-search μ-search
 enum-told c = search needs
 
 mul-t23 : tie.Need-mul-t23 Inv-loop μ-loop Inv-search μ-search
 mul-t23 c =
-    let s = c .before .before .before .before .before .before .before .before in
+    let s = c .before .before .before .before .before .before .before .before .before in
     omega (arith, s .before .before .before .before .pre .sound .cuts .room)
 
 element-copy-out-t26 : tie.Need-element-copy-out-t26 Inv-loop μ-loop Inv-search μ-search
 element-copy-out-t26 c =
-    let s = c .before .before .before .before .before .before .before .before in
+    let s = c .before .before .before .before .before .before .before .before .before in
     omega (arith, s .before .before .before .before .pre .sound .cuts .room)
 
 enum-known-more : tie.Need-enum-known-more Inv-loop μ-loop Inv-search μ-search
 enum-known-more c = search needs
 
-add-v : tie.Need-add-v Inv-loop μ-loop Inv-search μ-search
-add-v c = search needs
+first-on-requires-2 : tie.Need-first-on-requires-2 Inv-loop μ-loop Inv-search μ-search
+first-on-requires-2 c κs = search needs
 
 loop-less : tie.Need-loop-less Inv-loop μ-loop Inv-search μ-search
-loop-less c = search needs
+unfolding seen
+loop-less c =
+    let l = c .before .before .before .before .before .before in
+    let W = l .before .before .before .before .before .before .before .before .before .pre in
+    let q = rw (c .before .before .more .given .1) at (c .before .before .before .before .look .ensures) in
+    let h = above _ _ _ _ (omega (arith, W .sound .small)) (l .loop .inv .1) (q .1) (q .2) (c .first-on2 .ensures .2) in
+    omega arith
 
 loop-again : tie.Need-loop-again Inv-loop μ-loop Inv-search μ-search
 unfolding seen
 loop-again c =
-    let l = c .before .before .before .before .before in
-    let q = rw (c .before .more .given .1) at (c .before .before .before .look .ensures) in
-    (omega arith, l .loop .inv .1, below-more _ _ (l .loop .inv .2) (q .0), q .1)
+    let l = c .before .before .before .before .before .before in
+    let q = rw (c .before .before .more .given .1) at (c .before .before .before .before .look .ensures) in
+    (l .loop .inv .0, c .first-on2 .ensures .1, q .0)
 
 add-p : tie.Need-add-p Inv-loop μ-loop Inv-search μ-search
 add-p c = search needs
@@ -98,9 +126,9 @@ search-less c = search needs
 search-again : tie.Need-search-again Inv-loop μ-loop Inv-search μ-search
 search-again c =
     let l = c .before in
-    let s = l .before .before .before .before in
-    let q = rw (l .before .before .atom-at .ensures) at (l .loop .inv .2) in
-    (omega arith, l .loop .inv .1, below-more _ _ (s .search .inv .2) (λ u h. q u (omega arith)))
+    let s = l .before .before .before .before .before in
+    let q = rw (l .before .before .before .atom-at .ensures) at (clear _ _ _ _ _ (l .loop .inv .2) (l .loop .inv .1)) in
+    (omega arith, l .loop .inv .0, below-more _ _ (s .search .inv .2) (λ u h. q u (omega arith)))
 
 returns-2 : tie.Need-returns-2 Inv-loop μ-loop Inv-search μ-search
 returns-2 c =
@@ -111,10 +139,10 @@ returns-3 : tie.Need-returns-3 Inv-loop μ-loop Inv-search μ-search
 unfolding seen
 returns-3 c =
     let l = c .before .before .before .before .before in
-    let s = l .before .before .before .before in
-    let a = l .before .before .atom-at .ensures in
+    let s = l .before .before .before .before .before in
+    let a = l .before .before .before .atom-at .ensures in
     let q = rw (c .before .enum-told .given .1, a) at (c .before .before .before .look .ensures) in
-    sym (loop-is _ _ _ (s .before .before .before .before .pre) _ _ (omega arith) (omega arith) (s .search .inv .2) (rw a at (l .loop .inv .2)) q)
+    sym (loop-is _ _ _ (s .before .before .before .before .pre) _ _ (omega arith) (omega arith) (s .search .inv .2) (rw a at (clear _ _ _ _ _ (l .loop .inv .2) (l .loop .inv .1))) q)
 
 pub find-loop-spec : {M : Type 1} → statement M
 find-loop-spec =
@@ -130,13 +158,14 @@ find-loop-spec =
     search-holds
     atom-at-requires
     cast-atom
+    first-on-requires
     loop-holds
     look-requires
     enum-told
     mul-t23
     element-copy-out-t26
     enum-known-more
-    add-v
+    first-on-requires-2
     loop-less
     loop-again
     add-p

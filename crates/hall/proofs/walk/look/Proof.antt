@@ -1,41 +1,41 @@
 -- `walk::look` meets its contract. The loop's invariant: the packet stands at `here` after i moves from v, none of them led back to v, and
--- each node passed leads to `here`. Assumes nothing.
+-- each node passed leads to `here`; v and the nodes of `off` are among them. Assumes nothing.
 use borrow.Author.Needs.{needs}
 use mathlib.Core.Path.{_≡_, refl}
-use Prim.Native.Nat.{_-_, _≤_, _<_}
+use mathlib.Core.Bool.{true}
+use Prim.Native.Nat.{ℕ, _-_, _*_, _%_, _^_, _≤_, _<_}
 use native.Mathlib.Omega.{arith}
+use lib.Bits.{bitOr}
 use borrow.Author.Tests.{eq-eqb}
 use Rattle.meaning.specs.Walk.{at, after, onCircle}
 use Rattle.meaning.proofs.Owners.{nextIn, endIn}
-use Rattle.meaning.proofs.Moving.{step-to, NotBack, back-now, not-back, no-circle, none-below, Trail, trail-start, trail-here, trail-on, trail-off, off-before}
-use Rattle.hall.specs.Moves.{led, seen}
+use Rattle.meaning.proofs.Moving.{among, in-either, in-new, step-to, NotBack, back-now, not-back, no-circle, none-below, Trail, trail-start, trail-here, trail-on, trail-off}
+use Rattle.hall.specs.Moves.{led, seen, Within}
 use Rattle.hall.proofs.walk.look.Statement.{statement}
 use Rattle.hall.proofs.walk.look.Tie as tie
 
 abbrev Inv-loop : tie.InvT-loop
-Inv-loop link owner atom n v off here₀ passed₀ i₀ here passed i = (i ≤ n) × (here < 16) × (after (nextIn owner atom) (endIn link) i (at v) ≡ at here) × NotBack (nextIn owner atom) (endIn link) v i × Trail (nextIn owner atom) (endIn link) n passed here
+Inv-loop link owner atom n v off start here₀ passed₀ i₀ here passed i = (i ≤ n) × (here < 16) × (after (nextIn owner atom) (endIn link) i (at v) ≡ at here) × NotBack (nextIn owner atom) (endIn link) v i × Trail (nextIn owner atom) (endIn link) n passed here × (among passed v ≡ true) × Within off passed
 
 abbrev μ-loop : tie.MeasureT-loop
-μ-loop link owner atom n v off here₀ passed₀ i₀ here passed i = n - i
+μ-loop link owner atom n v off start here₀ passed₀ i₀ here passed i = n - i
 
-shr-if1 : tie.Need-shr-if1 Inv-loop μ-loop
-shr-if1 c = search needs
+-- a set that node u has joined has u and what it had
+abbrev with-node : ℕ → ℕ → ℕ
+with-node nodes u = bitOr nodes (1 * 2 ^ u % 65536)
 
-returns : tie.Need-returns Inv-loop μ-loop
-unfolding seen
-returns c =
-    let s = c .before in
-    (s .pre .4 .none-on _ (eq-eqb _ _ (c .if1 .taken)), s .pre .4)
+joined : (nodes u : ℕ) → u < 16 → (among (with-node nodes u) u ≡ true) × Within nodes (with-node nodes u)
+joined nodes u h = (in-new nodes u h, in-either nodes (1 * 2 ^ u % 65536))
+
+shl-start : tie.Need-shl-start Inv-loop μ-loop
+shl-start c = search needs
 
 loop-holds : tie.Need-loop-holds Inv-loop μ-loop
 unfolding after
-loop-holds c = (omega arith, omega arith, refl, (λ k h. absurd (omega arith)), trail-start _ _ _ _ _ (c .before .pre .4))
-
-cast-passed : tie.Need-cast-passed Inv-loop μ-loop
-cast-passed c = search needs
-
-shl-passed : tie.Need-shl-passed Inv-loop μ-loop
-shl-passed c = omega arith
+loop-holds c =
+    let to = trail-here _ _ _ _ _ (c .pre .1) (trail-start _ _ _ _ _ (c .pre .4)) in
+    let j = joined (c .args .off) (c .args .v) (c .pre .1) in
+    (omega arith, omega arith, refl, (λ k h. absurd (omega arith)), to, j .0, j .1)
 
 move-from-requires : tie.Need-move-from-requires Inv-loop μ-loop
 move-from-requires c κs = search needs
@@ -43,41 +43,48 @@ move-from-requires c κs = search needs
 enum-known-w : tie.Need-enum-known-w Inv-loop μ-loop
 enum-known-w c = search needs
 
-returns-2 : tie.Need-returns-2 Inv-loop μ-loop
+returns : tie.Need-returns Inv-loop μ-loop
 unfolding led seen
-returns-2 c =
+returns c =
     let l = c .before .before .before .before .before .before in
     let q = rw (c .before .before .w .given .1) at (c .before .before .before .before .move-from .ensures) in
-    back-now _ _ _ _ _ (l .loop .inv .2) _ _ (omega arith) (q .0) (c .if2 .taken)
+    back-now _ _ _ _ _ (l .loop .inv .2) _ _ (omega arith) (q .0) (c .if1 .taken)
 
-cast-if3 : tie.Need-cast-if3 Inv-loop μ-loop
-cast-if3 c = search needs
+cast-if2 : tie.Need-cast-if2 Inv-loop μ-loop
+cast-if2 c = search needs
 
-shr-if3 : tie.Need-shr-if3 Inv-loop μ-loop
+shr-if2 : tie.Need-shr-if2 Inv-loop μ-loop
 unfolding led
-shr-if3 c =
+shr-if2 c =
     let q = rw (c .before .before .w .given .1) at (c .before .before .before .before .move-from .ensures) in
     q .1
 
-returns-3 : tie.Need-returns-3 Inv-loop μ-loop
+returns-2 : tie.Need-returns-2 Inv-loop μ-loop
 unfolding led seen
-returns-3 c =
+returns-2 c =
     let l = c .before .before .before .before .before .before .before in
     let q = rw (c .before .before .before .w .given .1) at (c .before .before .before .before .before .move-from .ensures) in
-    let off = l .before .before .pre .4 .none-on _ (eq-eqb _ _ (c .if3 .taken)) in
-    let to = trail-on _ _ _ _ _ (trail-here _ _ _ _ _ (l .loop .inv .1) (l .loop .inv .4)) _ (q .0) in
-    (off-before _ _ _ _ _ _ (step-to _ _ _ _ _ (l .loop .inv .2) _ (q .0)) off, trail-off _ _ _ _ _ to off)
+    let off = l .before .pre .4 .none-on _ (eq-eqb _ _ (c .if2 .taken)) in
+    (trail-off _ _ _ _ _ (trail-on _ _ _ _ _ (l .loop .inv .4) _ (q .0)) off, l .loop .inv .5, l .loop .inv .6)
+
+cast-passed : tie.Need-cast-passed Inv-loop μ-loop
+cast-passed c = search needs
+
+shl-passed : tie.Need-shl-passed Inv-loop μ-loop
+unfolding led
+shl-passed c =
+    let q = rw (c .before .before .before .w .given .1) at (c .before .before .before .before .before .move-from .ensures) in
+    q .1
 
 enum-told : tie.Need-enum-told Inv-loop μ-loop
 enum-told c = search needs
 
-returns-4 : tie.Need-returns-4 Inv-loop μ-loop
+returns-3 : tie.Need-returns-3 Inv-loop μ-loop
 unfolding led seen
-returns-4 c =
+returns-3 c =
     let l = c .before .before .before .before in
     let q = rw (c .enum-told .given .1) at (c .before .before .move-from .ensures) in
-    let off = no-circle _ _ _ q _ in
-    (off-before _ _ _ _ _ _ (l .loop .inv .2) off, trail-off _ _ _ _ _ (trail-here _ _ _ _ _ (l .loop .inv .1) (l .loop .inv .4)) off)
+    (trail-off _ _ _ _ _ (l .loop .inv .4) (no-circle _ _ _ q _), l .loop .inv .5, l .loop .inv .6)
 
 add-i : tie.Need-add-i Inv-loop μ-loop
 add-i c = search needs
@@ -90,13 +97,19 @@ unfolding led
 loop-again c =
     let l = c .before .before .before .before .before .before .before in
     let q = rw (c .before .before .before .w .given .1) at (c .before .before .before .before .before .move-from .ensures) in
-    let b = not-back _ _ _ _ _ (l .loop .inv .2) (l .loop .inv .3) _ (q .0) (c .before .if2 .left) in
-    let to = trail-on _ _ _ _ _ (trail-here _ _ _ _ _ (l .loop .inv .1) (l .loop .inv .4)) _ (q .0) in
-    (omega arith, q .1, step-to _ _ _ _ _ (l .loop .inv .2) _ (q .0), b, to)
+    let b = not-back _ _ _ _ _ (l .loop .inv .2) (l .loop .inv .3) _ (q .0) (c .before .if1 .left) in
+    let more : Within (l .loop .passed) (with-node (l .loop .passed) (c .before .before .before .w .given .0 .0)) = in-either _ _ in
+    let to = trail-here _ _ _ _ _ (q .1) (trail-on _ _ _ _ _ (l .loop .inv .4) _ (q .0)) in
+    (omega arith, q .1, step-to _ _ _ _ _ (l .loop .inv .2) _ (q .0), b, to, more _ (l .loop .inv .5), λ x e. more x (l .loop .inv .6 x e))
 
-returns-5 : tie.Need-returns-5 Inv-loop μ-loop
+returns-4 : tie.Need-returns-4 Inv-loop μ-loop
 unfolding seen onCircle
-returns-5 c = (none-below _ _ _ (c .before .loop .inv .3) (omega arith), c .before .before .before .pre .4)
+returns-4 c =
+    let s = c .before .before in
+    let end : s .args .n ≤ c .before .loop .i = omega arith in
+    let to = trail-here _ _ _ _ _ (s .pre .1) (trail-start _ _ _ _ _ (s .pre .4)) in
+    let j = joined (s .args .off) (s .args .v) (s .pre .1) in
+    (trail-off _ _ _ _ _ to (none-below _ _ _ (c .before .loop .inv .3) end), j .0, j .1)
 
 pub look-spec : {M : Type 1} → statement M
 look-spec =
@@ -104,20 +117,19 @@ look-spec =
     (tie.spec
     Inv-loop
     μ-loop
-    shr-if1
-    returns
+    shl-start
     loop-holds
-    cast-passed
-    shl-passed
     move-from-requires
     enum-known-w
+    returns
+    cast-if2
+    shr-if2
     returns-2
-    cast-if3
-    shr-if3
-    returns-3
+    cast-passed
+    shl-passed
     enum-told
-    returns-4
+    returns-3
     add-i
     loop-less
     loop-again
-    returns-5)
+    returns-4)
