@@ -56,7 +56,7 @@ loop-less c = search needs
 loop-again : tie.Need-loop-again Inv-loop μ-loop
 loop-again c =
     let v = c .before .before .before .before .before .loop .inv in
-    let s = sym (stands-marked _ _ _ (v .2)) ∙ sym (c .before .stands-on .ensures) in (
+    let s = sym (stands-marked _ _ _ _ _ (v .2) (c .before .stands-on .ensures)) in (
       search needs,
       ⊎-elim (λ x. rw (x .3) (simp length-set (v .1))) (⊎-elim (λ x. rw (x .3) (v .1)) (λ x. rw (x .1) (v .1))) (c .if1 .came),
       search needs,
