@@ -31,7 +31,7 @@ use Rattle.meaning.proofs.Members.{and-both}
 use Rattle.meaning.proofs.Means.{wins}
 use Rattle.meaning.proofs.Idle.{any-off}
 use Rattle.meaning.proofs.Sound.{Sound}
-use Rattle.hall.specs.Gathered.{standing, tying, bestIn, maskOf, Marks, Gathers}
+use Rattle.hall.specs.Gathered.{standing, tying, bestIn, maskOf, Marks, IsAmong, Gathering, Gathers}
 
 -- ---- standing, covering, overlapping and tying, by the tests on the way
 
@@ -192,18 +192,6 @@ module _ {link : List ℕ} {v : ℕ} {here : List ℕ} where
   pub marked-all : Marking link v here 64 → Marks link v here
   marked-all m = record { right = m .right }
 
--- where rule k stands at node v and overlaps with w, it is among the gathered
-abbrev IsAmong : (link rule : List ℕ) (v w : ℕ) (among : List ℕ) (count k : ℕ) → Type 0
-IsAmong link rule v w among count k =
-    standing link v (getD rule k 0) ≡ true → overlap (getD rule k 0) w ≡ true → (j : ℕ) × (j < count) × (getD among j 0 ≡ k)
-
--- `Gathers` for the rules below i
-pub record Gathering (link rule : List ℕ) (v w : ℕ) (among : List ℕ) (count i : ℕ) : Type 0 where
-  pub few : count ≤ i
-  pub within : (j : ℕ) → j < count → getD among j 0 < i
-  pub each : (j : ℕ) → j < count → standing link v (getD rule (getD among j 0) 0) ≡ true
-  pub all : (k : ℕ) → k < i → IsAmong link rule v w among count k
-
 module _ {link rule : List ℕ} {v w : ℕ} {among : List ℕ} where
   pub gathered-none : Gathering link rule v w among 0 0
   gathered-none = record {
@@ -212,6 +200,9 @@ module _ {link rule : List ℕ} {v w : ℕ} {among : List ℕ} where
     each = λ j h. absurd (not-suc-le-zero h);
     all = λ k h. absurd (not-suc-le-zero h);
   }
+
+  pub gathered-to : {count i : ℕ} → Gathering link rule v w among count i → (k : ℕ) → i ≡ k → Gathering link rule v w among count k
+  gathered-to g k e = subst (Gathering link rule v w among _) e g
 
   pub gathered-all : {count : ℕ} → Gathering link rule v w among count 256 → Gathers link rule v w among count
   gathered-all g = record { few = g .few; within = g .within; each = g .each; all = g .all }

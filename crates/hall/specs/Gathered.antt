@@ -33,6 +33,18 @@ pub record Gathers (link rule : List ℕ) (v w : ℕ) (among : List ℕ) (count 
   pub all : (i : ℕ) → i < 256 → standing link v (getD rule i 0) ≡ true → overlap (getD rule i 0) w ≡ true
       → (j : ℕ) × (j < count) × (getD among j 0 ≡ i)
 
+-- where rule k stands at node v and overlaps with w, it is among the gathered
+abbrev pub IsAmong : (link rule : List ℕ) (v w : ℕ) (among : List ℕ) (count k : ℕ) → Type 0
+IsAmong link rule v w among count k =
+    standing link v (getD rule k 0) ≡ true → overlap (getD rule k 0) w ≡ true → (j : ℕ) × (j < count) × (getD among j 0 ≡ k)
+
+-- the numbers in `among`, count of them, are those of the rules below i that stand at node v and overlap with w
+pub record Gathering (link rule : List ℕ) (v w : ℕ) (among : List ℕ) (count i : ℕ) : Type 0 where
+  pub few : count ≤ i
+  pub within : (j : ℕ) → j < count → getD among j 0 < i
+  pub each : (j : ℕ) → j < count → standing link v (getD rule (getD among j 0) 0) ≡ true
+  pub all : (k : ℕ) → k < i → IsAmong link rule v w among count k
+
 -- the one of the highest rank among the first gathered that have E, or 256
 unfoldable pub bestIn : (ℕ → Bool) → (ℕ → ℕ) → List ℕ → ℕ → ℕ
 bestIn E r among zero = 256

@@ -2,12 +2,13 @@
 use meaning::Rule;
 ghost use mathlib.Core.Path.{_≡_};
 ghost use mathlib.Core.Bool.{Bool, true, _&&_};
-ghost use Prim.Native.Nat.{ℕ, _^_, _<_, _≤_};
+ghost use mathlib.Core.List.{List};
+ghost use Prim.Native.Nat.{ℕ, _+_, _^_, _<_, _≤_};
 ghost use lib.ListN.{getD};
 ghost use Rattle.meaning.specs.Search.{anyBelow};
 ghost use Rattle.meaning.specs.Rule.{ruleWord, live, linkOf, lengthOf, rank as rankOf, lower, upper, covers, overlap};
 ghost use Rattle.meaning.specs.Winner.{better};
-ghost use Rattle.hall.specs.Gathered.{bestIn, Gathers, maskOf, Marks, standing, tying};
+ghost use Rattle.hall.specs.Gathered.{bestIn, Gathering, Gathers, maskOf, Marks, standing, tying};
 
 // The word of a rule.
 pub fn pack(r: Rule) -> u64
@@ -157,7 +158,32 @@ fn stands_on(here: &[u64; 64], x: u64) -> bool
     x & here[link_of(x)] != 0
 }
 
+// Takes rule i in: writes its number behind the first count where it is live, on a link that is marked, and overlaps with w,
+// and returns how many there are then.
+fn take_in(
+    here: &[u64; 64],
+    rule: &[u64; 256],
+    w: u64,
+    i: usize,
+    among: &mut [u16; 256],
+    count: usize,
+) -> usize
+    requires { ⌜ (i < 256) × (count ≤ i) ⌝ }
+    ensures { λ r. ⌜ (r ≤ count + 1) × ((link : List ℕ) (v : ℕ) → Marks link v (now (here .entry)) → Gathering link (now (rule .entry)) v w (now (among .entry)) count i → Gathering link (now (rule .entry)) v w (now (among .exit)) r (i + 1)) ⌝ }
+{
+    let x = rule[i];
+    if stands_on(here, x) {
+        if overlaps(x, w) {
+            let numbers: &mut [u16] = among;
+            numbers[count] = i as u16;
+            return count + 1;
+        }
+    }
+    count
+}
+
 // Gathers the numbers of the live rules at node v that overlap with w, and returns how many there are.
+// Four rules in a round, for speed: what the loop itself costs is then a small part.
 pub fn gather(
     link: &[u16; 64],
     rule: &[u64; 256],
@@ -169,18 +195,14 @@ pub fn gather(
 {
     let mut here = [0u64; 64];
     links_at(link, v, &mut here);
-    let numbers: &mut [u16] = among;
     let mut count: usize = 0;
     let mut i: usize = 0;
     while i < 256 {
-        let x = rule[i];
-        if stands_on(&here, x) {
-            if overlaps(x, w) {
-                numbers[count] = i as u16;
-                count += 1;
-            }
-        }
-        i += 1;
+        count = take_in(&here, rule, w, i, among, count);
+        count = take_in(&here, rule, w, i + 1, among, count);
+        count = take_in(&here, rule, w, i + 2, among, count);
+        count = take_in(&here, rule, w, i + 3, among, count);
+        i += 4;
     }
     count
 }
