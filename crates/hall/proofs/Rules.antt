@@ -204,9 +204,6 @@ module _ {link rule : List ℕ} {v w : ℕ} {among : List ℕ} where
   pub gathered-to : {count i : ℕ} → Gathering link rule v w among count i → (k : ℕ) → i ≡ k → Gathering link rule v w among count k
   gathered-to g k e = subst (Gathering link rule v w among _) e g
 
-  pub gathered-all : {count : ℕ} → Gathering link rule v w among count 256 → Gathers link rule v w among count
-  gathered-all g = record { few = g .few; within = g .within; each = g .each; all = g .all }
-
   module _ {count i : ℕ} (g : Gathering link rule v w among count i) where
     pub gathered-skip : (standing link v (getD rule i 0) ≡ true → overlap (getD rule i 0) w ≡ true → ⊥) → Gathering link rule v w among count (i + 1)
     gathered-skip f = record {

@@ -25,14 +25,6 @@ maskOf b = pick b (2 ^ 64 - 1) 0
 pub record Marks (link : List ℕ) (v : ℕ) (here : List ℕ) : Type 0 where
   pub right : (l : ℕ) → l < 64 → getD here l 0 ≡ maskOf (eqb (getD link l 0 / 1024) v)
 
--- the numbers in `among`, count of them, are those of the live rules at node v that overlap with w
-pub record Gathers (link rule : List ℕ) (v w : ℕ) (among : List ℕ) (count : ℕ) : Type 0 where
-  pub few : count ≤ 256
-  pub within : (j : ℕ) → j < count → getD among j 0 < 256
-  pub each : (j : ℕ) → j < count → standing link v (getD rule (getD among j 0) 0) ≡ true
-  pub all : (i : ℕ) → i < 256 → standing link v (getD rule i 0) ≡ true → overlap (getD rule i 0) w ≡ true
-      → (j : ℕ) × (j < count) × (getD among j 0 ≡ i)
-
 -- where rule k stands at node v and overlaps with w, it is among the gathered
 abbrev pub IsAmong : (link rule : List ℕ) (v w : ℕ) (among : List ℕ) (count k : ℕ) → Type 0
 IsAmong link rule v w among count k =
@@ -44,6 +36,10 @@ pub record Gathering (link rule : List ℕ) (v w : ℕ) (among : List ℕ) (coun
   pub within : (j : ℕ) → j < count → getD among j 0 < i
   pub each : (j : ℕ) → j < count → standing link v (getD rule (getD among j 0) 0) ≡ true
   pub all : (k : ℕ) → k < i → IsAmong link rule v w among count k
+
+-- the numbers in `among`, count of them, are those of the live rules at node v that overlap with w
+abbrev pub Gathers : (link rule : List ℕ) (v w : ℕ) (among : List ℕ) (count : ℕ) → Type 0
+Gathers link rule v w among count = Gathering link rule v w among count 256
 
 -- the one of the highest rank among the first gathered that have E, or 256
 unfoldable pub bestIn : (ℕ → Bool) → (ℕ → ℕ) → List ℕ → ℕ → ℕ

@@ -4,7 +4,7 @@ use Prim.Native.Nat.{_+_, _-_, _%_, _≤_}
 use native.Mathlib.Omega.{arith}
 use borrow.Author.Needs.{needs}
 use Rattle.hall.specs.Gathered.{Marks, Gathering}
-use Rattle.hall.proofs.Rules.{gathered-none, gathered-to, gathered-all}
+use Rattle.hall.proofs.Rules.{gathered-none, gathered-to}
 use Rattle.hall.proofs.rule.gather.Statement.{statement}
 use Rattle.hall.proofs.rule.gather.Tie as tie
 
@@ -62,9 +62,7 @@ loop-again c =
     (search needs, search needs, m, g4)
 
 returns : tie.Need-returns Inv-loop μ-loop
-returns c =
-    let done : c .before .loop .i ≡ 256 = omega arith in
-    gathered-all (rw done at (c .before .loop .inv .3))
+returns c = gathered-to (c .before .loop .inv .3) 256 (omega arith)
 
 pub gather-spec : {M : Type 1} → statement M
 gather-spec =
