@@ -10,7 +10,7 @@ use native.Mathlib.Nat.{not-suc-le-zero}
 use native.Mathlib.Decide.{ℕ-discrete}
 use native.Mathlib.Numerals.{add-one}
 use native.Mathlib.Omega.{arith}
-use lib.Bits.{bitAnd, bitXor, and-le-l, and-le-r, xor-shr, xor-mod, xor-self}
+use lib.Bits.{bitAnd, bitXor, and-le-l, and-le-r, and-mask, and-zero-r, xor-shr, xor-mod, xor-self}
 use lib.Dec.{leb, ltb, eqb}
 use lib.ListN.{length, length-set, getD, set}
 use lib.Seq.{getD-set-same, getD-set-other}
@@ -31,7 +31,7 @@ use Rattle.meaning.proofs.Members.{and-both}
 use Rattle.meaning.proofs.Means.{wins}
 use Rattle.meaning.proofs.Idle.{any-off}
 use Rattle.meaning.proofs.Sound.{Sound}
-use Rattle.hall.specs.Gathered.{standing, tying, bestIn, Marks, Gathers}
+use Rattle.hall.specs.Gathered.{standing, tying, bestIn, maskOf, Marks, IsAmong, Gathering, Gathers}
 
 -- ---- standing, covering, overlapping and tying, by the tests on the way
 
@@ -47,13 +47,20 @@ and-on : (a : Bool) → (a && true) ≡ a
 and-on true = refl
 and-on false = refl
 
-module _ (x l : ℕ) (here : List Bool) (isLink : l ≡ linkOf x) where
-  pub marked-live : getD here l false ≡ true → not (eqb x 0) ≡ (live x && getD here (linkOf x) false)
-  unfolding live
-  marked-live e = rw (sym isLink, e, and-on)
+-- a word whose bits are all b keeps x where b is true, and else nothing of it
+module _ (x : ℕ) (h : x < 2 ^ 64) where
+  masked : (b : Bool) → bitAnd x (maskOf b) ≡ pick b x 0
+  masked true = and-mask x 64 ∙ omega arith
+  masked false = and-zero-r x
 
-  pub unmarked : getD here l false ≡ false → false ≡ (live x && getD here (linkOf x) false)
-  unmarked e = rw (sym isLink, e, and-off)
+  live-and : (b : Bool) → not (eqb (pick b x 0) 0) ≡ (live x && b)
+  unfolding live
+  live-and true = sym (and-on (live x))
+  live-and false = sym (and-off (live x))
+
+  pub live-marked : (l : ℕ) (here : List ℕ) → l ≡ linkOf x → (b : Bool) → getD here (linkOf x) 0 ≡ maskOf b
+      → not (eqb (bitAnd x (getD here l 0)) 0) ≡ (live x && b)
+  live-marked l here isLink b e = rw (isLink, e, masked b) (live-and b)
 
 module _ (link : List ℕ) (v x : ℕ) where
   pub not-standing : x ≡ 0 → false ≡ standing link v x
@@ -64,9 +71,10 @@ module _ (link : List ℕ) (v x : ℕ) where
   unfolding standing live
   stands-there n s e = rw (ne-eqb x 0 n, e)
 
-  pub stands-marked : {here : List Bool} → Marks link v here → (live x && getD here (linkOf x) false) ≡ standing link v x
+  pub stands-marked : (r : Bool) (here : List ℕ) → Marks link v here → ((b : Bool) → getD here (linkOf x) 0 ≡ maskOf b → r ≡ (live x && b))
+      → r ≡ standing link v x
   unfolding standing linkOf
-  stands-marked m = ap (λ (b : Bool). live x && b) (m .right (linkOf x) (omega arith))
+  stands-marked r here m f = f (eqb (getD link (linkOf x) 0 / 1024) v) (m .right (linkOf x) (omega arith))
 
 -- the ends are those that code has
 module _ (x a l u : ℕ) (isLow : l ≡ lower x) (isHigh : u ≡ upper x) where
@@ -166,35 +174,23 @@ module _ (m : State) (r l p n t : ℕ) (few : m .links ≤ 64) (hp : p < 2 ^ 32)
 -- ---- gathering
 
 -- `Marks` for the links below l
-pub record Marking (link : List ℕ) (v : ℕ) (here : List Bool) (l : ℕ) : Type 0 where
+pub record Marking (link : List ℕ) (v : ℕ) (here : List ℕ) (l : ℕ) : Type 0 where
   pub whole : length here ≡ 64
-  pub right : (k : ℕ) → k < l → getD here k false ≡ eqb (getD link k 0 / 1024) v
+  pub right : (k : ℕ) → k < l → getD here k 0 ≡ maskOf (eqb (getD link k 0 / 1024) v)
 
-module _ {link : List ℕ} {v : ℕ} {here : List Bool} where
+module _ {link : List ℕ} {v : ℕ} {here : List ℕ} where
   pub marked-none : length here ≡ 64 → Marking link v here 0
   marked-none e = record { whole = e; right = λ k h. absurd (not-suc-le-zero h) }
 
-  pub marked-more : {l : ℕ} → Marking link v here l → l < 64 → (b : Bool) → b ≡ eqb (getD link l 0 / 1024) v → Marking link v (set here l b) (l + 1)
-  marked-more {l} m h b e = record {
+  pub marked-more : {l : ℕ} → Marking link v here l → l < 64 → (x : ℕ) → x ≡ maskOf (eqb (getD link l 0 / 1024) v) → Marking link v (set here l x) (l + 1)
+  marked-more {l} m h x e = record {
     whole = simp length-set (m .whole);
-    right = below-more (λ k. getD (set here l b) k false ≡ eqb (getD link k 0 / 1024) v) l
-        (λ k g. getD-set-other here l k b false (λ d. omega arith) ∙ m .right k g) (getD-set-same here l b false (omega (arith, m .whole)) ∙ e);
+    right = below-more (λ k. getD (set here l x) k 0 ≡ maskOf (eqb (getD link k 0 / 1024) v)) l
+        (λ k g. getD-set-other here l k x 0 (λ d. omega arith) ∙ m .right k g) (getD-set-same here l x 0 (omega (arith, m .whole)) ∙ e);
   }
 
   pub marked-all : Marking link v here 64 → Marks link v here
   marked-all m = record { right = m .right }
-
--- where rule k stands at node v and overlaps with w, it is among the gathered
-abbrev IsAmong : (link rule : List ℕ) (v w : ℕ) (among : List ℕ) (count k : ℕ) → Type 0
-IsAmong link rule v w among count k =
-    standing link v (getD rule k 0) ≡ true → overlap (getD rule k 0) w ≡ true → (j : ℕ) × (j < count) × (getD among j 0 ≡ k)
-
--- `Gathers` for the rules below i
-pub record Gathering (link rule : List ℕ) (v w : ℕ) (among : List ℕ) (count i : ℕ) : Type 0 where
-  pub few : count ≤ i
-  pub within : (j : ℕ) → j < count → getD among j 0 < i
-  pub each : (j : ℕ) → j < count → standing link v (getD rule (getD among j 0) 0) ≡ true
-  pub all : (k : ℕ) → k < i → IsAmong link rule v w among count k
 
 module _ {link rule : List ℕ} {v w : ℕ} {among : List ℕ} where
   pub gathered-none : Gathering link rule v w among 0 0
@@ -205,8 +201,8 @@ module _ {link rule : List ℕ} {v w : ℕ} {among : List ℕ} where
     all = λ k h. absurd (not-suc-le-zero h);
   }
 
-  pub gathered-all : {count : ℕ} → Gathering link rule v w among count 256 → Gathers link rule v w among count
-  gathered-all g = record { few = g .few; within = g .within; each = g .each; all = g .all }
+  pub gathered-to : {count i : ℕ} → Gathering link rule v w among count i → (k : ℕ) → i ≡ k → Gathering link rule v w among count k
+  gathered-to g k e = subst (Gathering link rule v w among _) e g
 
   module _ {count i : ℕ} (g : Gathering link rule v w among count i) where
     pub gathered-skip : (standing link v (getD rule i 0) ≡ true → overlap (getD rule i 0) w ≡ true → ⊥) → Gathering link rule v w among count (i + 1)

@@ -1,10 +1,11 @@
 -- Rules by their words: those that stand at a node, those that tie, a node's links, and the best among gathered ones. Assumes nothing: these are definitions.
 use mathlib.Core.Path.{_≡_}
-use mathlib.Core.Bool.{Bool, true, false, _&&_}
+use mathlib.Core.Bool.{Bool, true, _&&_}
 use mathlib.Core.List.{List}
-use Prim.Native.Nat.{ℕ, zero, suc, _/_, _<_, _≤_}
+use Prim.Native.Nat.{ℕ, zero, suc, _-_, _/_, _^_, _<_, _≤_}
 use lib.Dec.{eqb}
 use lib.ListN.{getD}
+use Rattle.meaning.specs.Search.{pick}
 use Rattle.meaning.specs.Rule.{live, linkOf, rank, overlap}
 use Rattle.meaning.specs.Winner.{better}
 
@@ -16,17 +17,29 @@ standing link v x = live x && eqb (getD link (linkOf x) 0 / 1024) v
 unfoldable pub tying : List ℕ → ℕ → ℕ → ℕ → Bool
 tying link v w x = live x && (eqb (getD link (linkOf x) 0 / 1024) v && (eqb (rank x) (rank w) && overlap x w))
 
--- the links that `here` marks are those whose source is node v
-pub record Marks (link : List ℕ) (v : ℕ) (here : List Bool) : Type 0 where
-  pub right : (l : ℕ) → l < 64 → getD here l false ≡ eqb (getD link l 0 / 1024) v
+-- the word of 64 bits that are all b
+abbrev pub maskOf : Bool → ℕ
+maskOf b = pick b (2 ^ 64 - 1) 0
+
+-- the links that `here` marks, by words whose bits are all set, are those whose source is node v
+pub record Marks (link : List ℕ) (v : ℕ) (here : List ℕ) : Type 0 where
+  pub right : (l : ℕ) → l < 64 → getD here l 0 ≡ maskOf (eqb (getD link l 0 / 1024) v)
+
+-- where rule k stands at node v and overlaps with w, it is among the gathered
+abbrev pub IsAmong : (link rule : List ℕ) (v w : ℕ) (among : List ℕ) (count k : ℕ) → Type 0
+IsAmong link rule v w among count k =
+    standing link v (getD rule k 0) ≡ true → overlap (getD rule k 0) w ≡ true → (j : ℕ) × (j < count) × (getD among j 0 ≡ k)
+
+-- the numbers in `among`, count of them, are those of the rules below i that stand at node v and overlap with w
+pub record Gathering (link rule : List ℕ) (v w : ℕ) (among : List ℕ) (count i : ℕ) : Type 0 where
+  pub few : count ≤ i
+  pub within : (j : ℕ) → j < count → getD among j 0 < i
+  pub each : (j : ℕ) → j < count → standing link v (getD rule (getD among j 0) 0) ≡ true
+  pub all : (k : ℕ) → k < i → IsAmong link rule v w among count k
 
 -- the numbers in `among`, count of them, are those of the live rules at node v that overlap with w
-pub record Gathers (link rule : List ℕ) (v w : ℕ) (among : List ℕ) (count : ℕ) : Type 0 where
-  pub few : count ≤ 256
-  pub within : (j : ℕ) → j < count → getD among j 0 < 256
-  pub each : (j : ℕ) → j < count → standing link v (getD rule (getD among j 0) 0) ≡ true
-  pub all : (i : ℕ) → i < 256 → standing link v (getD rule i 0) ≡ true → overlap (getD rule i 0) w ≡ true
-      → (j : ℕ) × (j < count) × (getD among j 0 ≡ i)
+abbrev pub Gathers : (link rule : List ℕ) (v w : ℕ) (among : List ℕ) (count : ℕ) → Type 0
+Gathers link rule v w among count = Gathering link rule v w among count 256
 
 -- the one of the highest rank among the first gathered that have E, or 256
 unfoldable pub bestIn : (ℕ → Bool) → (ℕ → ℕ) → List ℕ → ℕ → ℕ

@@ -1,13 +1,14 @@
 // Rules: a rule's word and its parts, the tie check, and the winner among gathered rules.
 use meaning::Rule;
 ghost use mathlib.Core.Path.{_≡_};
-ghost use mathlib.Core.Bool.{true, false, _&&_};
-ghost use Prim.Native.Nat.{ℕ, _^_, _<_, _≤_};
+ghost use mathlib.Core.Bool.{Bool, true, _&&_};
+ghost use mathlib.Core.List.{List};
+ghost use Prim.Native.Nat.{ℕ, _+_, _^_, _<_, _≤_};
 ghost use lib.ListN.{getD};
 ghost use Rattle.meaning.specs.Search.{anyBelow};
 ghost use Rattle.meaning.specs.Rule.{ruleWord, live, linkOf, lengthOf, rank as rankOf, lower, upper, covers, overlap};
 ghost use Rattle.meaning.specs.Winner.{better};
-ghost use Rattle.hall.specs.Gathered.{bestIn, Gathers, Marks, standing, tying};
+ghost use Rattle.hall.specs.Gathered.{bestIn, Gathering, Gathers, maskOf, Marks, standing, tying};
 
 // The word of a rule.
 pub fn pack(r: Rule) -> u64
@@ -128,29 +129,61 @@ pub fn ties(link: &[u16; 64], rule: &[u64; 256], v: usize, w: u64) -> bool
     false
 }
 
+// The word whose bits are all b.
+fn mask_of(b: bool) -> u64
+    ensures { λ r. ⌜ r ≡ maskOf b ⌝ }
+{
+    if b {
+        return 18446744073709551615;
+    }
+    0
+}
+
 // Marks in `here` the links whose source is node v.
-fn links_at(link: &[u16; 64], v: usize, here: &mut [bool; 64])
+fn links_at(link: &[u16; 64], v: usize, here: &mut [u64; 64])
     ensures { λ r. ⌜ Marks (now (link .entry)) v (now (here .exit)) ⌝ }
 {
-    let s: &mut [bool] = here;
+    let s: &mut [u64] = here;
     let mut l: usize = 0;
     while l < 64 {
-        s[l] = crate::link::source_of(link[l]) == v;
+        s[l] = mask_of(crate::link::source_of(link[l]) == v);
         l += 1;
     }
 }
 
-// Whether x is a live rule on a link that is marked.
-fn stands_on(here: &[bool; 64], x: u64) -> bool
-    ensures { λ r. ⌜ r ≡ (live x && getD (now (here .entry)) (linkOf x) false) ⌝ }
+// Whether x is a live rule on a link that is marked: one test, and no branch for the words of rules that are not live.
+fn stands_on(here: &[u64; 64], x: u64) -> bool
+    ensures { λ r. ⌜ ((b : Bool) → getD (now (here .entry)) (linkOf x) 0 ≡ maskOf b → r ≡ (live x && b)) ⌝ }
 {
-    if here[link_of(x)] {
-        return x != 0;
+    x & here[link_of(x)] != 0
+}
+
+// Takes rule i in: writes its number behind the first count where it is live, on a link that is marked, and overlaps with w,
+// and returns how many there are then.
+fn take_in(
+    here: &[u64; 64],
+    rule: &[u64; 256],
+    w: u64,
+    i: usize,
+    among: &mut [u16; 256],
+    count: usize,
+) -> usize
+    requires { ⌜ (i < 256) × (count ≤ i) ⌝ }
+    ensures { λ r. ⌜ (r ≤ count + 1) × ((link : List ℕ) (v : ℕ) → Marks link v (now (here .entry)) → Gathering link (now (rule .entry)) v w (now (among .entry)) count i → Gathering link (now (rule .entry)) v w (now (among .exit)) r (i + 1)) ⌝ }
+{
+    let x = rule[i];
+    if stands_on(here, x) {
+        if overlaps(x, w) {
+            let numbers: &mut [u16] = among;
+            numbers[count] = i as u16;
+            return count + 1;
+        }
     }
-    false
+    count
 }
 
 // Gathers the numbers of the live rules at node v that overlap with w, and returns how many there are.
+// Four rules in a round, for speed: what the loop itself costs is then a small part.
 pub fn gather(
     link: &[u16; 64],
     rule: &[u64; 256],
@@ -160,20 +193,16 @@ pub fn gather(
 ) -> usize
     ensures { λ r. ⌜ Gathers (now (link .entry)) (now (rule .entry)) v w (now (among .exit)) r ⌝ }
 {
-    let mut here = [false; 64];
+    let mut here = [0u64; 64];
     links_at(link, v, &mut here);
-    let numbers: &mut [u16] = among;
     let mut count: usize = 0;
     let mut i: usize = 0;
     while i < 256 {
-        let x = rule[i];
-        if stands_on(&here, x) {
-            if overlaps(x, w) {
-                numbers[count] = i as u16;
-                count += 1;
-            }
-        }
-        i += 1;
+        count = take_in(&here, rule, w, i, among, count);
+        count = take_in(&here, rule, w, i + 1, among, count);
+        count = take_in(&here, rule, w, i + 2, among, count);
+        count = take_in(&here, rule, w, i + 3, among, count);
+        i += 4;
     }
     count
 }

@@ -1,11 +1,11 @@
 -- `rule::links_at` meets its contract. The loop's invariant: the links below l are marked where their source is v. Assumes nothing.
-use mathlib.Core.Bool.{false}
-use mathlib.Core.Path.{_≡_, ap}
+use mathlib.Core.Path.{_≡_, ap, _∙_}
 use Prim.Native.Nat.{ℕ, _-_, _/_, _≤_, _<_}
 use native.Mathlib.Omega.{arith}
 use lib.Dec.{eqb}
 use lib.ListN.{length, length-set, getD}
 use borrow.Author.Needs.{needs}
+use Rattle.hall.specs.Gathered.{maskOf}
 use Rattle.hall.proofs.Rules.{Marking, marked-none, marked-more, marked-all}
 use Rattle.hall.proofs.rule.links_at.Statement.{statement}
 use Rattle.hall.proofs.rule.links_at.Tie as tie
@@ -28,6 +28,12 @@ element-copy-out-source-of c = search needs
 source-of-requires : tie.Need-source-of-requires Inv-loop μ-loop
 source-of-requires c κs = search needs
 
+mask-of-requires : tie.Need-mask-of-requires Inv-loop μ-loop
+mask-of-requires c κs = search needs
+
+mul-s : tie.Need-mul-s Inv-loop μ-loop
+mul-s c = search needs
+
 slice-write-s : tie.Need-slice-write-s Inv-loop μ-loop
 slice-write-s c = search needs
 
@@ -39,8 +45,11 @@ loop-less c = search needs
 
 loop-again : tie.Need-loop-again Inv-loop μ-loop
 loop-again c =
-    let l = c .before .before .before in
-    (search needs, marked-more (l .loop .inv .1) (omega arith) _ (ap (λ (r : ℕ). eqb r (l .before .before .args .v)) (c .source-of .ensures .0)))
+    let l = c .before .before .before .before in (
+      search needs,
+      marked-more (l .loop .inv .1) (omega arith) _
+          (c .mask-of .ensures ∙ ap (λ (r : ℕ). maskOf (eqb r (l .before .before .args .v))) (c .before .source-of .ensures .0)),
+    )
 
 returns : tie.Need-returns Inv-loop μ-loop
 returns c =
@@ -57,6 +66,8 @@ links-at-spec =
     mul-source-of
     element-copy-out-source-of
     source-of-requires
+    mask-of-requires
+    mul-s
     slice-write-s
     add-l
     loop-less
