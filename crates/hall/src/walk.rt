@@ -117,7 +117,8 @@ pub fn look(link: &[u16; 64], owner: &[u16; 8192], atom: usize, n: u8, v: u8, of
         }
         i += 1;
     }
-    Seen::Off(off | 1u16 << v)
+    let more = off | 1u16 << v;
+    Seen::Off(more)
 }
 
 // Whether the walk to an atom from node v stands at node w at some time, the start counted. Where the walk comes to a node that is none

@@ -99,8 +99,8 @@ loop-again c =
     let j = joined (l .before .args .off) (l .loop .passed) (l .loop .here) (l .before .args .v) (l .loop .inv .1) (l .loop .inv .5) (l .loop .inv .6) in
     (omega arith, q .1, step-to _ _ _ _ _ (l .loop .inv .2) _ (q .0), b, to, inl (j .0), j .1)
 
-shl-t20 : tie.Need-shl-t20 Inv-loop μ-loop
-shl-t20 c = search needs
+shl-more : tie.Need-shl-more Inv-loop μ-loop
+shl-more c = search needs
 
 returns-4 : tie.Need-returns-4 Inv-loop μ-loop
 unfolding seen onCircle
@@ -131,5 +131,5 @@ look-spec =
     add-i
     loop-less
     loop-again
-    shl-t20
+    shl-more
     returns-4)
