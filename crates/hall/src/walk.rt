@@ -87,7 +87,7 @@ pub enum Seen {
 pub fn first_on(off: u16) -> u8
     ensures { λ r. ⌜ (r ≤ 16) × Below off r × (r < 16 → among off r ≡ false) ⌝ }
 {
-    u16::trailing_zeros(!off) as u8
+    u32::trailing_zeros(!(off as u32)) as u8
 }
 
 // Whether node v lies on a circle of an atom. Where its walk ends, or comes to a node of `off`, the nodes passed lie on none and join
@@ -96,11 +96,11 @@ pub fn look(link: &[u16; 64], owner: &[u16; 8192], atom: usize, n: u8, v: u8, of
     requires { ⌜ (atom < 512) × (v < 16) × (n ≤ 16) × Ends (now link) (now owner) × Off (nextIn (now owner) atom) (endIn (now link)) n off ⌝ }
     ensures { λ r. ⌜ seen (nextIn (now (owner .entry)) atom) (endIn (now (link .entry))) n v off r ⌝ }
 {
-    let start = off | 1u16 << v;
     let mut here = v;
-    let mut passed = start;
+    let mut passed = off;
     let mut i: u8 = 0;
     while i < n {
+        passed |= 1u16 << here;
         match move_from(link, owner, atom, here) {
             Led::To(w) => {
                 if w == v {
@@ -110,7 +110,6 @@ pub fn look(link: &[u16; 64], owner: &[u16; 8192], atom: usize, n: u8, v: u8, of
                     return Seen::Off(passed);
                 }
                 here = w;
-                passed |= 1u16 << w;
             }
             Led::Ended => {
                 return Seen::Off(passed);
@@ -118,7 +117,8 @@ pub fn look(link: &[u16; 64], owner: &[u16; 8192], atom: usize, n: u8, v: u8, of
         }
         i += 1;
     }
-    Seen::Off(start)
+    let more = off | 1u16 << v;
+    Seen::Off(more)
 }
 
 // Whether the walk to an atom from node v stands at node w at some time, the start counted. Where the walk comes to a node that is none

@@ -1,7 +1,8 @@
 -- `walk::look` meets its contract. The loop's invariant: the packet stands at `here` after i moves from v, none of them led back to v, and
--- each node passed leads to `here`; v and the nodes of `off` are among them. Assumes nothing.
+-- each node passed leads to `here`; the nodes of `off` are among them, and v is or is `here`. Assumes nothing.
 use borrow.Author.Needs.{needs}
-use mathlib.Core.Path.{_≡_, refl}
+use mathlib.Core.Path.{_≡_, refl, sym, ap, _∙_}
+use mathlib.Core.Logic.{_⊎_, inl, inr, ⊎-elim}
 use mathlib.Core.Bool.{true}
 use Prim.Native.Nat.{ℕ, _-_, _*_, _%_, _^_, _≤_, _<_}
 use native.Mathlib.Omega.{arith}
@@ -15,27 +16,28 @@ use Rattle.hall.proofs.walk.look.Statement.{statement}
 use Rattle.hall.proofs.walk.look.Tie as tie
 
 abbrev Inv-loop : tie.InvT-loop
-Inv-loop link owner atom n v off start here₀ passed₀ i₀ here passed i = (i ≤ n) × (here < 16) × (after (nextIn owner atom) (endIn link) i (at v) ≡ at here) × NotBack (nextIn owner atom) (endIn link) v i × Trail (nextIn owner atom) (endIn link) n passed here × (among passed v ≡ true) × Within off passed
+Inv-loop link owner atom n v off here₀ passed₀ i₀ here passed i = (i ≤ n) × (here < 16) × (after (nextIn owner atom) (endIn link) i (at v) ≡ at here) × NotBack (nextIn owner atom) (endIn link) v i × Trail (nextIn owner atom) (endIn link) n passed here × ((among passed v ≡ true) ⊎ (here ≡ v)) × Within off passed
 
 abbrev μ-loop : tie.MeasureT-loop
-μ-loop link owner atom n v off start here₀ passed₀ i₀ here passed i = n - i
+μ-loop link owner atom n v off here₀ passed₀ i₀ here passed i = n - i
 
--- a set that node u has joined has u and what it had
-abbrev with-node : ℕ → ℕ → ℕ
-with-node nodes u = bitOr nodes (1 * 2 ^ u % 65536)
-
-joined : (nodes u : ℕ) → u < 16 → (among (with-node nodes u) u ≡ true) × Within nodes (with-node nodes u)
-joined nodes u h = (in-new nodes u h, in-either nodes (1 * 2 ^ u % 65536))
-
-shl-start : tie.Need-shl-start Inv-loop μ-loop
-shl-start c = search needs
+-- a set that node u has joined has v, which it had or which is u, and what it had
+joined : (off nodes u v : ℕ) → u < 16 → (among nodes v ≡ true) ⊎ (u ≡ v) → Within off nodes
+    → (among (bitOr nodes (1 * 2 ^ u % 65536)) v ≡ true) × Within off (bitOr nodes (1 * 2 ^ u % 65536))
+joined off nodes u v h e w =
+    let all : ℕ = bitOr nodes (1 * 2 ^ u % 65536) in
+    let more : Within nodes all = in-either nodes (1 * 2 ^ u % 65536) in
+    (⊎-elim (more v) (λ (q : u ≡ v). sym (ap (among all) q) ∙ in-new nodes u h) e, λ x f. more x (w x f))
 
 loop-holds : tie.Need-loop-holds Inv-loop μ-loop
 unfolding after
-loop-holds c =
-    let to = trail-here _ _ _ _ _ (c .pre .1) (trail-start _ _ _ _ _ (c .pre .4)) in
-    let j = joined (c .args .off) (c .args .v) (c .pre .1) in
-    (omega arith, omega arith, refl, (λ k h. absurd (omega arith)), to, j .0, j .1)
+loop-holds c = (omega arith, omega arith, refl, (λ k h. absurd (omega arith)), trail-start _ _ _ _ _ (c .pre .4), inr refl, λ x e. e)
+
+cast-passed : tie.Need-cast-passed Inv-loop μ-loop
+cast-passed c = search needs
+
+shl-passed : tie.Need-shl-passed Inv-loop μ-loop
+shl-passed c = omega arith
 
 move-from-requires : tie.Need-move-from-requires Inv-loop μ-loop
 move-from-requires c κs = search needs
@@ -65,16 +67,9 @@ returns-2 c =
     let l = c .before .before .before .before .before .before .before in
     let q = rw (c .before .before .before .w .given .1) at (c .before .before .before .before .before .move-from .ensures) in
     let off = l .before .pre .4 .none-on _ (eq-eqb _ _ (c .if2 .taken)) in
-    (trail-off _ _ _ _ _ (trail-on _ _ _ _ _ (l .loop .inv .4) _ (q .0)) off, l .loop .inv .5, l .loop .inv .6)
-
-cast-passed : tie.Need-cast-passed Inv-loop μ-loop
-cast-passed c = search needs
-
-shl-passed : tie.Need-shl-passed Inv-loop μ-loop
-unfolding led
-shl-passed c =
-    let q = rw (c .before .before .before .w .given .1) at (c .before .before .before .before .before .move-from .ensures) in
-    q .1
+    let to = trail-on _ _ _ _ _ (trail-here _ _ _ _ _ (l .loop .inv .1) (l .loop .inv .4)) _ (q .0) in
+    let j = joined (l .before .args .off) (l .loop .passed) (l .loop .here) (l .before .args .v) (l .loop .inv .1) (l .loop .inv .5) (l .loop .inv .6) in
+    (trail-off _ _ _ _ _ to off, j .0, j .1)
 
 enum-told : tie.Need-enum-told Inv-loop μ-loop
 enum-told c = search needs
@@ -84,7 +79,9 @@ unfolding led seen
 returns-3 c =
     let l = c .before .before .before .before in
     let q = rw (c .enum-told .given .1) at (c .before .before .move-from .ensures) in
-    (trail-off _ _ _ _ _ (l .loop .inv .4) (no-circle _ _ _ q _), l .loop .inv .5, l .loop .inv .6)
+    let to = trail-here _ _ _ _ _ (l .loop .inv .1) (l .loop .inv .4) in
+    let j = joined (l .before .args .off) (l .loop .passed) (l .loop .here) (l .before .args .v) (l .loop .inv .1) (l .loop .inv .5) (l .loop .inv .6) in
+    (trail-off _ _ _ _ _ to (no-circle _ _ _ q _), j .0, j .1)
 
 add-i : tie.Need-add-i Inv-loop μ-loop
 add-i c = search needs
@@ -98,9 +95,12 @@ loop-again c =
     let l = c .before .before .before .before .before .before .before in
     let q = rw (c .before .before .before .w .given .1) at (c .before .before .before .before .before .move-from .ensures) in
     let b = not-back _ _ _ _ _ (l .loop .inv .2) (l .loop .inv .3) _ (q .0) (c .before .if1 .left) in
-    let more : Within (l .loop .passed) (with-node (l .loop .passed) (c .before .before .before .w .given .0 .0)) = in-either _ _ in
-    let to = trail-here _ _ _ _ _ (q .1) (trail-on _ _ _ _ _ (l .loop .inv .4) _ (q .0)) in
-    (omega arith, q .1, step-to _ _ _ _ _ (l .loop .inv .2) _ (q .0), b, to, more _ (l .loop .inv .5), λ x e. more x (l .loop .inv .6 x e))
+    let to = trail-on _ _ _ _ _ (trail-here _ _ _ _ _ (l .loop .inv .1) (l .loop .inv .4)) _ (q .0) in
+    let j = joined (l .before .args .off) (l .loop .passed) (l .loop .here) (l .before .args .v) (l .loop .inv .1) (l .loop .inv .5) (l .loop .inv .6) in
+    (omega arith, q .1, step-to _ _ _ _ _ (l .loop .inv .2) _ (q .0), b, to, inl (j .0), j .1)
+
+shl-more : tie.Need-shl-more Inv-loop μ-loop
+shl-more c = search needs
 
 returns-4 : tie.Need-returns-4 Inv-loop μ-loop
 unfolding seen onCircle
@@ -108,7 +108,7 @@ returns-4 c =
     let s = c .before .before in
     let end : s .args .n ≤ c .before .loop .i = omega arith in
     let to = trail-here _ _ _ _ _ (s .pre .1) (trail-start _ _ _ _ _ (s .pre .4)) in
-    let j = joined (s .args .off) (s .args .v) (s .pre .1) in
+    let j = joined (s .args .off) (s .args .off) (s .args .v) (s .args .v) (s .pre .1) (inr refl) (λ x e. e) in
     (trail-off _ _ _ _ _ to (none-below _ _ _ (c .before .loop .inv .3) end), j .0, j .1)
 
 pub look-spec : {M : Type 1} → statement M
@@ -117,19 +117,19 @@ look-spec =
     (tie.spec
     Inv-loop
     μ-loop
-    shl-start
     loop-holds
+    cast-passed
+    shl-passed
     move-from-requires
     enum-known-w
     returns
     cast-if2
     shr-if2
     returns-2
-    cast-passed
-    shl-passed
     enum-told
     returns-3
     add-i
     loop-less
     loop-again
+    shl-more
     returns-4)
