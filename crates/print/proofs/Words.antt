@@ -1,16 +1,19 @@
 -- The bytes of a word, taken out of it one by one and stored one behind the other. Assumes nothing.
 use mathlib.Core.Path.{_≡_, refl, ap, _∙_}
 use mathlib.Core.List.{List, [], _∷_}
-use Prim.Native.Nat.{ℕ, _+_, _*_, _/_, _%_, _<_}
+use Prim.Native.Nat.{ℕ, _+_, _-_, _*_, _/_, _%_, _<_}
 use native.Mathlib.Omega.{arith}
 use native.Mathlib.Numerals.{add-one, add-two, add-three, add-four, add-five, add-six, add-seven}
 use lib.ListN.{length, set}
 use lib.Seq.{sets, length-sets}
-use Rattle.print.specs.Text.{Wrote, four, eight, packed}
+use Rattle.print.specs.Text.{Wrote, pair, four, eight, packed}
 
 -- stores that leave what the text leaves write the text
 stored : (text old new : List ℕ) (at : ℕ) → new ≡ sets old at text → Wrote (length text) text old new at (at + length text)
 stored text old new at e = record { bytes = e; moved = refl; kept = ap length e ∙ length-sets old at text; near = omega arith }
+
+pub two-stores : (old : List ℕ) (at a b : ℕ) → Wrote 2 (a ∷ b ∷ []) old (set (set old at a) (at + 1) b) at (at + 2)
+two-stores old at a b = stored (a ∷ b ∷ []) old _ at (rw (add-one at))
 
 pub four-stores : (old : List ℕ) (at a b c d : ℕ)
     → Wrote 4 (a ∷ b ∷ c ∷ d ∷ []) old (set (set (set (set old at a) (at + 1) b) (at + 2) c) (at + 3) d) at (at + 4)
@@ -57,6 +60,12 @@ high p h = omega arith
 
 low : (p : ℕ) → 48 + p % 10 < 256
 low p = omega arith
+
+pub two-bytes : (n : ℕ) → n < 100 → (12336 + n * 256 - n / 10 * 2559) % 256 ∷ (12336 + n * 256 - n / 10 * 2559) / 256 ∷ [] ≡ pair n
+two-bytes n h =
+    let e₁ : (12336 + n * 256 - n / 10 * 2559) % 256 ≡ 48 + n / 10 = omega arith in
+    let e₂ : (12336 + n * 256 - n / 10 * 2559) / 256 ≡ 48 + n % 10 = omega arith in
+    rw (e₁, e₂)
 
 pub four-bytes : (n w : ℕ) → n < 10000 → w ≡ packed (four n)
     → w % 256 ∷ w / 256 % 256 ∷ w / 65536 % 256 ∷ w / 16777216 ∷ [] ≡ four n

@@ -27,14 +27,16 @@ pub fn put_text(buf: &mut [u8], at: usize, text: &[u8]) -> usize
     at + text.len()
 }
 
-// The two digits of a number below 100.
+// The two digits of a number below 100, the first in the lower byte of a word. The compiler makes one store of the two.
 fn put_pair(buf: &mut [u8], at: usize, n: u32) -> usize
     requires { ⌜ at + 2 ≤ length (now buf) ⌝ }
     requires { ⌜ n < 100 ⌝ }
     ensures { λ r. ⌜ Wrote 2 (pair n) (now (buf .entry)) (now (buf .exit)) at r ⌝ }
 {
-    let next = put_byte(buf, at, 48 + (n / 10) as u8);
-    put_byte(buf, next, 48 + (n % 10) as u8)
+    let w = 12336 + n * 256 - n / 10 * 2559;
+    buf[at] = (w % 256) as u8;
+    buf[at + 1] = (w / 256) as u8;
+    at + 2
 }
 
 // The four digits of a number below 10,000 in a word, the first in its lowest byte: its two pairs lie side by side, in 16 bits each.
