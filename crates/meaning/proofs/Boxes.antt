@@ -19,12 +19,13 @@ use Rattle.meaning.specs.Hall.{State}
 use Rattle.meaning.specs.Labels.{labelsOf, ownersOf}
 use Rattle.meaning.specs.Changes.{entriesAt, overwrite}
 use Rattle.meaning.specs.Questions.{byAddress}
-use Rattle.meaning.specs.Records.{isKind, bodyOf, recordOf, readOf, phaseOf}
-use Rattle.meaning.specs.Step.{Done, when, refusal, leaves, listed, nodeOf, changes, only, answers, accepted, taken, stepBy, stepOf}
+use Rattle.meaning.specs.Records.{readOf, phaseOf, isQuestion}
+use Rattle.meaning.specs.Step.{Done, when, refusal, turnedBy, leaves, listed, nodeOf, changes, only, answers, accepted, taken, stepFor, stepWith, stepBy, stepOf, replyTo}
 use Rattle.meaning.specs.Run.{Came, more}
 use Rattle.meaning.specs.Answers.{said}
-use Rattle.meaning.specs.Box.{Held, Left, left, leftBy, leftOf}
+use Rattle.meaning.specs.Box.{Held, Left, left, leftBy, leftFor, leftOf}
 use Rattle.meaning.proofs.Sound.{when-none, or-false}
+use Rattle.meaning.proofs.Steps.{question-keeps}
 use Rattle.meaning.proofs.Kept.{sound}
 use Rattle.meaning.proofs.Owners.{Words, Listed}
 use Rattle.meaning.proofs.Labelled.{owners-are, labels-are, labels-leaves, owners-leaves}
@@ -63,34 +64,6 @@ module _ (m m′ : State) (label′ owner′ list list′ s : List ℕ) (a : Ans
 
 -- ---- a step by what the bytes begin with
 
--- the number that a record is refused by: 3 where it is out of its order, else by its kind's own checks; or none
-abbrev turnedBy : State → Record → Option ℕ
-turnedBy m r = when (not (eqb (m .phase) (phaseOf r))) 3 (refusal m r)
-
--- a step by what was read
-unfoldable pub stepFor : State → Read → Done
-stepFor m Nothing = only m 0 End
-stepFor m (Unread k) = only m 0 (Refused k)
-stepFor m (Got r n) = taken (byAddress m) m n r (turnedBy m r)
-
-pub step-read : (m : State) (room : ℕ) (s : List ℕ) → 2560 ≤ room → stepOf m room s ≡ stepFor m (readOf s)
-unfolding stepOf stepBy stepFor readOf
-step-read m room s h =
-    rw (le-ltb room 2560 h) (go (eqb (length s) 0) (not (isKind (getD s 0 0))) (ltb (length s) (1 + bodyOf (getD s 0 0))))
-  where
-    r : Record
-    r = recordOf s
-
-    n : ℕ
-    n = 1 + bodyOf (getD s 0 0)
-
-    go : (a b c : Bool) → pick a (only m 0 End) (pick b (only m 0 (Refused 1)) (pick c (only m 0 (Refused 2)) (taken (byAddress m) m n r (turnedBy m r))))
-        ≡ stepFor m (pick a Nothing (pick b (Unread 1) (pick c (Unread 2) (Got r n))))
-    go true b c = refl
-    go false true c = refl
-    go false false true = refl
-    go false false false = refl
-
 -- ---- an answer alone leaves everything as it was
 
 module _ (m : State) (label owner list : List ℕ) (h : Held m label owner) where
@@ -98,30 +71,41 @@ module _ (m : State) (label owner list : List ℕ) (h : Held m label owner) wher
   unfolding leftBy only overwrite
   left-only a n = rw (h .labels, h .owners)
 
-  pub short-leaves : (s : List ℕ) → length list < 2560 → left (Refused 0) 0 m label owner list ≡ leftOf m list s
-  unfolding leftOf stepOf stepBy
-  short-leaves s l = rw (lt-ltb (length list) 2560 l) (left-only (Refused 0) 0)
+  pub short-leaves : (x : Read) → length list < 2560 → left (Refused 0) 0 m label owner list ≡ leftFor m list x
+  unfolding leftFor stepWith
+  short-leaves x l = rw (lt-ltb (length list) 2560 l) (left-only (Refused 0) 0)
 
-  module _ (s : List ℕ) (room : 2560 ≤ length list) where
-    pub end-leaves : readOf s ≡ Nothing → left End 0 m label owner list ≡ leftOf m list s
-    unfolding leftOf stepFor
-    end-leaves e = left-only End 0 ∙ ap (leftBy list) (sym (step-read m (length list) s room ∙ ap (stepFor m) e))
+  module _ (room : 2560 ≤ length list) where
+    pub end-leaves : left End 0 m label owner list ≡ leftFor m list Nothing
+    unfolding leftFor stepWith stepFor
+    end-leaves = rw (le-ltb (length list) 2560 room) (left-only End 0)
 
-    pub unread-leaves : (k : ℕ) → readOf s ≡ Unread k → left (Refused k) 0 m label owner list ≡ leftOf m list s
-    unfolding leftOf stepFor
-    unread-leaves k e = left-only (Refused k) 0 ∙ ap (leftBy list) (sym (step-read m (length list) s room ∙ ap (stepFor m) e))
+    pub unread-leaves : (k : ℕ) → left (Refused k) 0 m label owner list ≡ leftFor m list (Unread k)
+    unfolding leftFor stepWith stepFor
+    unread-leaves k = rw (le-ltb (length list) 2560 room) (left-only (Refused k) 0)
 
-    pub disorder-leaves : (r : Record) (n : ℕ) → readOf s ≡ Got r n → (m .phase ≡ phaseOf r → ⊥) → left (Refused 3) n m label owner list ≡ leftOf m list s
-    unfolding leftOf stepFor when taken
-    disorder-leaves r n e o =
-        left-only (Refused 3) n
-        ∙ ap (leftBy list) (sym (step-read m (length list) s room ∙ ap (stepFor m) e ∙ rw (ne-eqb (m .phase) (phaseOf r) o)))
+    pub disorder-leaves : (r : Record) (n : ℕ) → (m .phase ≡ phaseOf r → ⊥) → left (Refused 3) n m label owner list ≡ leftFor m list (Got r n)
+    unfolding leftFor stepWith stepFor when taken
+    disorder-leaves r n o = rw (le-ltb (length list) 2560 room, ne-eqb (m .phase) (phaseOf r) o) (left-only (Refused 3) n)
+
+    -- a question: the answer is all that it leaves
+    pub reply-leaves : (r : Record) (n : ℕ) → isQuestion r ≡ true → left (replyTo m r) n m label owner list ≡ leftFor m list (Got r n)
+    unfolding leftFor stepWith stepFor taken only replyTo
+    reply-leaves r n q = rw (le-ltb (length list) 2560 room, q) (go (turnedBy m r))
+      where
+        go : (o : Option ℕ) → left (taken (byAddress m) m 0 r o .answer) n m label owner list ≡ leftBy list (taken (byAddress m) m n r o)
+        go (some k) = left-only (Refused k) n
+        go none = unfold accepted leftBy overwrite in let K = question-keeps m (byAddress m) n r q in rw (K .list, K .state, h .labels, h .owners)
 
 -- a record in its order: what is left is what it takes
-pub order-leaves : (m : State) (list s : List ℕ) → 2560 ≤ length list → (r : Record) (n : ℕ) → readOf s ≡ Got r n → m .phase ≡ phaseOf r → takes m list n r ≡ leftOf m list s
-unfolding leftOf takes stepFor when
-order-leaves m list s room r n e o =
-    ap (leftBy list) (sym (step-read m (length list) s room ∙ ap (stepFor m) e ∙ rw (eq-eqb (m .phase) (phaseOf r) o)))
+pub order-leaves : (m : State) (list : List ℕ) → 2560 ≤ length list → (r : Record) (n : ℕ) → m .phase ≡ phaseOf r → takes m list n r ≡ leftFor m list (Got r n)
+unfolding leftFor takes stepWith stepFor when
+order-leaves m list room r n o = rw (le-ltb (length list) 2560 room, eq-eqb (m .phase) (phaseOf r) o)
+
+-- and by the bytes that were read
+pub read-leaves : (m : State) (list s : List ℕ) (x : Read) → readOf s ≡ x → leftFor m list x ≡ leftOf m list s
+unfolding leftFor leftOf stepOf stepBy
+read-leaves m list s x e = ap (λ (y : Read). leftBy list (stepWith (byAddress m) m (length list) y)) (sym e)
 
 -- ---- a record in its order
 
@@ -130,12 +114,6 @@ module _ (m : State) (label owner list : List ℕ) (h : Held m label owner) (n :
   pub turned-takes : (k : ℕ) → refusal m r ≡ some k → left (Refused k) n m label owner list ≡ takes m list n r
   unfolding takes taken
   turned-takes k e = rw e (left-only m label owner list h (Refused k) n)
-
-  -- it is accepted and changes nothing, as a question
-  pub asked-takes : refusal m r ≡ none → (a : Answer) → a ≡ answers (byAddress m) m r → leaves m r ≡ m → changes m r ≡ []
-      → left a n m label owner list ≡ takes m list n r
-  unfolding takes taken accepted leftBy overwrite entriesAt
-  asked-takes ok a e same quiet = rw (ok, same, quiet, e, h .labels, h .owners)
 
   -- it comes before the close and is accepted: the labels and the owners stay
   pub opened-takes : m .phase < 2 → m .phase ≡ phaseOf r → refusal m r ≡ none → answers (byAddress m) m r ≡ Ok → changes m r ≡ []

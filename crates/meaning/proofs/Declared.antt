@@ -20,12 +20,11 @@ use Rattle.meaning.specs.Hall.{State, fresh, sourceOf, endOf, linkWord}
 use Rattle.meaning.specs.Atoms.{withCut}
 use Rattle.meaning.specs.Questions.{byAddress}
 use Rattle.meaning.specs.Records.{recordOf, phaseOf}
-use Rattle.meaning.specs.Step.{Done, refusal, withRule, inserted, withNodes, withLink, closed, leaves, only, answers, accepted, stepOf}
+use Rattle.meaning.specs.Step.{Done, refusal, withRule, inserted, withNodes, withLink, closed, leaves, turnedBy, only, answers, accepted, stepOf}
 use Rattle.meaning.specs.Run.{Came, start, more}
 use Rattle.meaning.proofs.Words.{Fits, fits}
 use Rattle.meaning.proofs.Sound.{when-none, or-false}
 use Rattle.meaning.proofs.Kept.{sound}
-use Rattle.meaning.proofs.Steps.{turnedBy}
 use Rattle.meaning.proofs.Demands.{refusedBy, then, Takes, HasNodes, HasLink}
 use Rattle.meaning.proofs.Taking.{Unmoved, both-step, Took, accepts}
 

@@ -21,7 +21,7 @@ use Rattle.meaning.specs.Atoms.{isCut}
 use Rattle.meaning.specs.Labels.{on, labelsOf, ownersOf}
 use Rattle.meaning.specs.Changes.{linkOrNone}
 use Rattle.meaning.specs.Questions.{isOut, isLost, isRound, fateOf}
-use Rattle.meaning.specs.Records.{bodyOf, recordOf, phaseOf}
+use Rattle.meaning.specs.Records.{bodyOf, recordOf, phaseOf, isQuestion}
 use Rattle.meaning.specs.Step.{Done, nodeOf, stepOf}
 use Rattle.meaning.specs.Run.{runOf, Came, start, more}
 use Rattle.meaning.specs.Box.{Left, leftOf}
@@ -30,7 +30,6 @@ use Rattle.meaning.proofs.Searches.{Lowest}
 use Rattle.meaning.proofs.Winners.{Serves, Outranks, Stored}
 use Rattle.meaning.proofs.Covering.{InAtom}
 use Rattle.meaning.proofs.Asked.{Loops, Comes}
-use Rattle.meaning.proofs.Steps.{isQuestion}
 use Rattle.meaning.proofs.Stops.{Stops, Runs}
 
 -- ---- demand 1

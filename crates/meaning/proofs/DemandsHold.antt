@@ -17,6 +17,7 @@ use Rattle.meaning.specs.Rule.{linkOf}
 use Rattle.meaning.specs.Winner.{ruleAt, winner, linkFor, nextAt}
 use Rattle.meaning.specs.Labels.{on, labelsOf}
 use Rattle.meaning.specs.Questions.{loopsAt, circleAt, someNode, loopFrom, asked, fateOf, byAddress}
+use Rattle.meaning.specs.Records.{isQuestion}
 use Rattle.meaning.specs.Step.{refusal, stepOf}
 use Rattle.meaning.specs.Run.{Came}
 use Rattle.meaning.specs.Box.{Left, leftOf}
@@ -28,7 +29,7 @@ use Rattle.meaning.proofs.Winners.{winner-is}
 use Rattle.meaning.proofs.Covering.{InAtom, covered, covered-once, covered-only, numbered, on-words}
 use Rattle.meaning.proofs.Fates.{fate-exact}
 use Rattle.meaning.proofs.Asked.{Loops, Comes, loop-some, loop-none, reach-yes, reach-no, tally-counts}
-use Rattle.meaning.proofs.Steps.{isOk, isQuestion, quiet-left}
+use Rattle.meaning.proofs.Steps.{isOk, quiet-left}
 use Rattle.meaning.proofs.Stops.{runs, run-stops}
 use Rattle.meaning.proofs.Exchange.{winner-same}
 use Rattle.meaning.proofs.Demands.{checks, Stands, Demand1, Names, Asks, Demand2, Demand3}

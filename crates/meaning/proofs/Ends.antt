@@ -15,8 +15,10 @@ use Rattle.meaning.specs.Hall.{zeroes, State, fresh}
 use Rattle.meaning.specs.Labels.{labelsOf}
 use Rattle.meaning.specs.Changes.{changedAt, changedPlaces, entryAt, entriesAt, overwrite}
 use Rattle.meaning.specs.declared.Record.{Record}
-use Rattle.meaning.specs.Records.{isKind, bodyOf, recordOf, phaseOf}
-use Rattle.meaning.specs.Step.{Done, when, refusal, only, accepted, taken, stepBy}
+use Rattle.meaning.specs.declared.Read.{Read}
+use Rattle.meaning.specs.Records.{recordOf, readOf}
+use Rattle.meaning.specs.Step.{Done, turnedBy, only, accepted, taken, stepFor, stepWith, stepBy}
+use Rattle.meaning.proofs.Begins.{Begins, nothing, unread, whole, begins}
 use Rattle.meaning.specs.Run.{Ran, onward, runFrom}
 use Rattle.meaning.proofs.Sound.{fresh-sound}
 use Rattle.meaning.proofs.Idle.{labels-idle}
@@ -50,23 +52,18 @@ overwrite-length written old h = simp (length-append, length-drop) (omega arith)
 -- ---- a run ends: a step passes no byte, or some of those there are
 
 pub passed-few : (ask : Record → Answer) (m : State) (room : ℕ) (s : List ℕ) → stepBy ask m room s .passed ≤ length s
-unfolding stepBy only taken accepted
-passed-few ask m room s = go (ltb room 2560) (eqb (length s) 0) (not (isKind (getD s 0 0))) (ltb (length s) (1 + bodyOf (getD s 0 0))) refl
+unfolding stepBy stepWith stepFor only taken accepted
+passed-few ask m room s = go (ltb room 2560) (readOf s) (begins s)
   where
-    n : ℕ
-    n = 1 + bodyOf (getD s 0 0)
+    last : (n : ℕ) (r : Record) (o : Option ℕ) → n ≤ length s → taken ask m n r o .passed ≤ length s
+    last n r (some k) h = h
+    last n r none h = h
 
-    last : (o : Option ℕ) → n ≤ length s → taken ask m n (recordOf s) o .passed ≤ length s
-    last (some k) h = h
-    last none h = h
-
-    go : (a b c d : Bool) → ltb (length s) n ≡ d → pick a (only m 0 (Refused 0)) (pick b (only m 0 End) (pick c (only m 0 (Refused 1)) (pick d (only m 0 (Refused 2))
-        (taken ask m n (recordOf s) (when (not (eqb (m .phase) (phaseOf (recordOf s)))) 3 (refusal m (recordOf s))))))) .passed ≤ length s
-    go true b c d e = omega arith
-    go false true c d e = omega arith
-    go false false true d e = omega arith
-    go false false false true e = omega arith
-    go false false false false e = last (when (not (eqb (m .phase) (phaseOf (recordOf s)))) 3 (refusal m (recordOf s))) (ltb-false (length s) n e)
+    go : (a : Bool) (x : Read) → Begins s x → pick a (only m 0 (Refused 0)) (stepFor ask m x) .passed ≤ length s
+    go true x b = omega arith
+    go false x (nothing h) = omega arith
+    go false x (unread k h) = omega arith
+    go false x (whole h) = last _ (recordOf s) (turnedBy m (recordOf s)) h
 
 -- so turns enough are as good as any more
 pub run-enough : (step : State → ℕ → List ℕ → Done) → ((m : State) (room : ℕ) (s : List ℕ) → step m room s .passed ≤ length s)

@@ -191,7 +191,7 @@ module _ (m : State) (S : Sound m) where
           past-off l k (omega arith)
           ∙ sym (ap (λ (x : ℕ). eqb (via x) l) (O .rest k v (omega arith) hk (source-small l)) ∙ ap (λ (x : ℕ). eqb x l) via-none ∙ ne-eqb 64 l (λ q. omega arith))
 
-labels-words : (m : State) → Words (labelsOf m)
+pub labels-words : (m : State) → Words (labelsOf m)
 labels-words m = record { size = labels-length m; word = λ i. go i (decLt i 512) }
   where
     go : (i : ℕ) → Dec (i < 512) → getD (labelsOf m) i 0 < 2 ^ 64

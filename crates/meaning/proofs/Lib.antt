@@ -53,6 +53,7 @@ pub mod Ends
 pub mod Exchange
 pub mod Owners
 pub mod Boxes
+pub mod Replies
 pub mod Bits
 pub mod Below
 pub mod LabelWords
@@ -61,5 +62,6 @@ pub mod Numbered
 pub mod Labelled
 pub mod Carried
 pub mod Reading
+pub mod Begins
 pub mod Splitting
 pub mod OneRule

@@ -14,8 +14,8 @@ use Rattle.meaning.specs.Changes.{linkOrNone, changedAt, changedPlaces, 
 use Rattle.meaning.specs.Walk.{arrive, leave, move, after, stands, standsAt, goesRound, onCircle, comesTo, told, fateIn}
 use Rattle.meaning.specs.Search.{anyBelow, lowestBelow, tabulate}
 use Rattle.meaning.specs.Questions.{fateOf, loopsAt, circleAt, someNode, loopFrom, reachFrom, reachesAt, isOut, isLost, isRound, asked, byAddress, leastPlace, countPlace, byPlace}
-use Rattle.meaning.specs.Records.{number, isKind, bodyOf, recordOf, phaseOf}
-use Rattle.meaning.specs.Step.{when, ragged, clashes, added, refusal, withRule, inserted, withNodes, withLink, closed, leaves, listed, nodeOf, changes, only, answers, accepted, taken, stepBy, stepOf, stepIn}
+use Rattle.meaning.specs.Records.{number, isKind, bodyOf, recordOf, readOf, phaseOf}
+use Rattle.meaning.specs.Step.{when, ragged, clashes, added, refusal, withRule, inserted, withNodes, withLink, closed, leaves, listed, nodeOf, changes, only, answers, accepted, taken, stepFor, stepWith, stepBy, stepOf, stepIn}
 use Rattle.meaning.specs.Run.{start, Line, Ran, onward, runFrom, linesFrom, linesOf}
 use Rattle.meaning.proofs.Agree.{lines-in, run-in}
 use Rattle.meaning.specs.Labels.{names, isOn, wordOf, labelsOf}
@@ -64,7 +64,7 @@ table =
 
 -- to unfold this is to unfold every definition of the meaning but the search over addresses
 unfoldable pub opened : ℕ
-unfolding fresh sourceOf endOf linkWord live linkOf rank covers lower upper overlap ruleWord better best ruleAt eligible winner linkFor nextAt placeOf isCut insertAt splitCut splitNumber splitCount withCut linkOrNone changedAt changedPlaces entryAt entriesAt arrive leave move after stands standsAt anyBelow lowestBelow goesRound onCircle comesTo told fateIn fateOf loopsAt circleAt someNode loopFrom reachFrom reachesAt isOut isLost isRound asked leastPlace countPlace byPlace number isKind bodyOf recordOf when phaseOf ragged clashes added refusal withRule inserted withNodes withLink closed leaves listed nodeOf changes only answers accepted taken stepBy stepIn onward linesFrom
+unfolding fresh sourceOf endOf linkWord live linkOf rank covers lower upper overlap ruleWord better best ruleAt eligible winner linkFor nextAt placeOf isCut insertAt splitCut splitNumber splitCount withCut linkOrNone changedAt changedPlaces entryAt entriesAt arrive leave move after stands standsAt anyBelow lowestBelow goesRound onCircle comesTo told fateIn fateOf loopsAt circleAt someNode loopFrom reachFrom reachesAt isOut isLost isRound asked leastPlace countPlace byPlace number isKind bodyOf recordOf when phaseOf ragged clashes added refusal withRule inserted withNodes withLink closed leaves listed nodeOf changes only answers accepted taken readOf stepFor stepWith stepBy stepIn onward linesFrom
 opened = 0
 
 by-places : linesFrom stepIn 2560 (length bytes) fresh bytes ≡ table

@@ -18,8 +18,9 @@ use Rattle.meaning.specs.Hall.{top, State, sourceOf}
 use Rattle.meaning.specs.Rule.{ruleWord, live, linkOf, rank, lower, upper}
 use Rattle.meaning.specs.Winner.{ruleAt}
 use Rattle.meaning.specs.Questions.{loopsAt, circleAt, someNode, loopFrom, reachesAt, reachFrom, asked, byAddress}
-use Rattle.meaning.specs.Records.{isKind, bodyOf, recordOf, phaseOf}
-use Rattle.meaning.specs.Step.{when, ragged, clashes, added, refusal, only, answers, accepted, taken, stepBy, stepOf}
+use Rattle.meaning.specs.declared.Read.the-variants.{End as Nothing, Refused as Unread, Got}
+use Rattle.meaning.specs.Records.{isKind, bodyOf, recordOf, readOf, phaseOf}
+use Rattle.meaning.specs.Step.{when, ragged, clashes, added, refusal, turnedBy, only, answers, accepted, taken, stepFor, stepWith, stepBy, stepOf}
 use Rattle.meaning.specs.Run.{Came}
 use Rattle.meaning.proofs.Places.{le-or-lt}
 use Rattle.meaning.proofs.Words.{Sized, Fits, fits, link-of, rank-of, lower-of, upper-of, within-top}
@@ -27,7 +28,6 @@ use Rattle.meaning.proofs.Sound.{or-false}
 use Rattle.meaning.proofs.Kept.{sound}
 use Rattle.meaning.proofs.Winners.{covers-is}
 use Rattle.meaning.proofs.Refusals.{ties, tie-found}
-use Rattle.meaning.proofs.Steps.{turnedBy}
 use Rattle.meaning.proofs.Demands.{Check, check, Outcome, Ties, innerWith, checksOf, checks, refusedBy}
 use Rattle.meaning.proofs.Inner.{inner-count}
 
@@ -194,8 +194,8 @@ module _ (m : State) where
   -- the number that a step refuses by, as one chain of tests
   refused-is : (room kind : ℕ) (body : List ℕ) → refusedBy (stepOf m room (kind ∷ body) .answer)
       ≡ when (ltb room 2560) 0 (when (not (isKind kind)) 1 (when (ltb (length (kind ∷ body)) (1 + bodyOf kind)) 2 (turnedBy m (recordOf (kind ∷ body)))))
-  unfolding stepOf stepBy taken only accepted refusedBy when
-  refused-is room kind body = rw (ne-eqb (length (kind ∷ body)) 0 (λ e. omega arith)) (go (ltb room 2560) (not (isKind kind)) (ltb (length (kind ∷ body)) (1 + bodyOf kind)) (turnedBy m r))
+  unfolding stepOf stepBy stepWith stepFor readOf taken only accepted refusedBy when
+  refused-is room kind body = rw (ne-eqb (length (kind ∷ body)) 0 (λ e. omega arith)) (go (ltb room 2560) (not (isKind kind)) (ltb (length (kind ∷ body)) (1 + bodyOf kind)))
     where
       r : Record
       r = recordOf (kind ∷ body)
@@ -203,16 +203,19 @@ module _ (m : State) where
       n : ℕ
       n = 1 + bodyOf kind
 
-      go : (a b c : Bool) (o : Option ℕ)
-          → refusedBy (pick a (only m 0 (Refused 0)) (pick b (only m 0 (Refused 1)) (pick c (only m 0 (Refused 2)) (taken (byAddress m) m n r o))) .answer) ≡ when a 0 (when b 1 (when c 2 o))
-      go true b c o = refl
-      go false true c o = refl
-      go false false true o = refl
-      go false false false (some k) = refl
-      go false false false none = unrefused r
+      last : (o : Option ℕ) → refusedBy (taken (byAddress m) m n r o .answer) ≡ o
+      last (some k) = refl
+      last none = unrefused r
+
+      go : (a b c : Bool) → refusedBy (pick a (only m 0 (Refused 0)) (stepFor (byAddress m) m (pick b (Unread 1) (pick c (Unread 2) (Got r n)))) .answer)
+          ≡ when a 0 (when b 1 (when c 2 (turnedBy m r)))
+      go true b c = refl
+      go false true c = refl
+      go false false true = refl
+      go false false false = last (turnedBy m r)
 
   ended-is : (room : ℕ) → refusedBy (stepOf m room [] .answer) ≡ when (ltb room 2560) 0 none
-  unfolding stepOf stepBy only refusedBy when
+  unfolding stepOf stepBy stepWith stepFor readOf only refusedBy when
   ended-is room = go (ltb room 2560)
     where
       go : (a : Bool) → refusedBy (pick a (only m 0 (Refused 0)) (only m 0 End) .answer) ≡ when a 0 none

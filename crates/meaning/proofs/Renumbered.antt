@@ -15,8 +15,7 @@ use Rattle.meaning.specs.Atoms.{withCut}
 use Rattle.meaning.specs.Changes.{changedAt, changedPlaces, entryAt, entriesAt}
 use Rattle.meaning.specs.Questions.{byAddress}
 use Rattle.meaning.specs.Records.{recordOf}
-use Rattle.meaning.specs.Step.{Done, clashes, added, refusal, withRule, inserted, withNodes, withLink, closed, leaves, listed, nodeOf, changes, only, answers, accepted, stepOf}
-use Rattle.meaning.proofs.Steps.{turnedBy}
+use Rattle.meaning.specs.Step.{Done, clashes, added, refusal, withRule, inserted, withNodes, withLink, closed, leaves, listed, nodeOf, changes, turnedBy, only, answers, accepted, stepOf}
 use Rattle.meaning.proofs.Demands.{SameEntries, empty, entry, SameStep, Call, since}
 use Rattle.meaning.proofs.Twins.{answers-same}
 use Rattle.meaning.proofs.Taking.{Unmoved, both-step}

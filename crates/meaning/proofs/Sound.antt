@@ -23,12 +23,14 @@ use Rattle.meaning.proofs.Tables.{Cuts, Numbers, Boundary}
 use Rattle.meaning.specs.Atoms.{isCut, splitCut, splitNumber, splitCount, withCut}
 use Rattle.meaning.specs.declared.Record.{Record}
 use Rattle.meaning.specs.declared.Record.the-variants.{Hall as hall, Link as link, Close as close, Insert as insert, Remove as remove, Loop as loop, Fate as fate, Reach as reach, Tally as tally}
-use Rattle.meaning.specs.Records.{isKind, bodyOf, recordOf, phaseOf}
-use Rattle.meaning.specs.Step.{Done, when, ragged, clashes, added, refusal, withRule, inserted, withNodes, withLink, closed, leaves, only, accepted, taken, stepBy, stepOf}
+use Rattle.meaning.specs.declared.Read.{Read}
+use Rattle.meaning.specs.Records.{recordOf, readOf, phaseOf}
+use Rattle.meaning.specs.Step.{Done, when, ragged, clashes, added, refusal, withRule, inserted, withNodes, withLink, closed, leaves, only, accepted, taken, stepFor, stepWith, stepBy, stepOf}
 use Rattle.meaning.specs.Run.{Came, start, more}
 use Rattle.meaning.proofs.Places.{le-or-lt}
 use Rattle.meaning.proofs.Parted.{split-cuts, split-numbers, split-has, split-keeps, split-count, boundary-is}
 use Rattle.meaning.proofs.Constant.{Aligned}
+use Rattle.meaning.proofs.Begins.{Begins, nothing, unread, whole, begins}
 use Rattle.meaning.proofs.Words.{link-of, rank-of, lower-of, upper-of, live-of, within-top, Sized, Fits, fits}
 
 -- ---- what is kept from record to record
@@ -36,27 +38,22 @@ use Rattle.meaning.proofs.Words.{link-of, rank-of, lower-of, upper-of, 
 -- what an accepted record keeps, a step keeps
 module _ (ask : Record → Answer) (P : State → Type 0) (m : State) (room : ℕ) (s : List ℕ) where
   pub step-keeps : ((r : Record) → Fits r → m .phase ≡ phaseOf r → refusal m r ≡ none → P (leaves m r)) → P m → P (stepBy ask m room s .left)
-  unfolding stepBy only taken accepted when
-  step-keeps f p = go (ltb room 2560) (eqb (length s) 0) (not (isKind (getD s 0 0))) (ltb (length s) (1 + bodyOf (getD s 0 0)))
+  unfolding stepBy stepWith stepFor only taken accepted when
+  step-keeps f p = go (ltb room 2560) (readOf s) (begins s)
     where
       r : Record
       r = recordOf s
 
-      n : ℕ
-      n = 1 + bodyOf (getD s 0 0)
+      last : (n : ℕ) (e : Bool) (o : Option ℕ) → not (eqb (m .phase) (phaseOf r)) ≡ e → refusal m r ≡ o → P (taken ask m n r (when e 3 o) .left)
+      last n true o h g = p
+      last n false (some k) h g = p
+      last n false none h g = f r (fits s) (eqb-true _ _ (not-false _ h)) g
 
-      last : (e : Bool) (o : Option ℕ) → not (eqb (m .phase) (phaseOf r)) ≡ e → refusal m r ≡ o → P (taken ask m n r (when e 3 o) .left)
-      last true o h g = p
-      last false (some k) h g = p
-      last false none h g = f r (fits s) (eqb-true _ _ (not-false _ h)) g
-
-      go : (a b c d : Bool) → P (pick a (only m 0 (Refused 0)) (pick b (only m 0 End) (pick c (only m 0 (Refused 1)) (pick d (only m 0 (Refused 2))
-          (taken ask m n r (when (not (eqb (m .phase) (phaseOf r))) 3 (refusal m r)))))) .left)
-      go true b c d = p
-      go false true c d = p
-      go false false true d = p
-      go false false false true = p
-      go false false false false = last _ _ refl refl
+      go : (a : Bool) (x : Read) → Begins s x → P (pick a (only m 0 (Refused 0)) (stepFor ask m x) .left)
+      go true x b = p
+      go false x (nothing h) = p
+      go false x (unread k h) = p
+      go false x (whole h) = last _ _ _ refl refl
 
 pub came-keeps : (P : State → Type 0) → P fresh → ((m : State) (r : Record) → P m → Fits r → m .phase ≡ phaseOf r → refusal m r ≡ none → P (leaves m r))
     → (m : State) → Came m → P m

@@ -20,28 +20,20 @@ use Rattle.meaning.specs.Search.{pick}
 use Rattle.meaning.specs.Hall.{State}
 use Rattle.meaning.specs.Labels.{labelsOf, ownersOf}
 use Rattle.meaning.specs.Changes.{entriesAt, overwrite}
-use Rattle.meaning.specs.Records.{isKind, bodyOf, recordOf, readOf, phaseOf}
-use Rattle.meaning.specs.Step.{Done, when, refusal, leaves, changes, only, answers, accepted, taken, stepBy, stepOf}
+use Rattle.meaning.specs.Records.{recordOf, readOf, phaseOf, isQuestion}
+use Rattle.meaning.specs.Step.{Done, when, refusal, leaves, changes, turnedBy, only, answers, accepted, taken, stepFor, stepWith, stepBy, stepOf}
 use Rattle.meaning.specs.Box.{left, leftBy, leftOf}
 use Rattle.meaning.proofs.Words.{Fits, fits}
+use Rattle.meaning.proofs.Begins.{Begins, nothing, unread as without, whole, begins}
 
 -- what is read is the record of these bytes, and so its fields have their sizes
-reads-record : (s : List ℕ) (r : Record) (n : ℕ) → readOf s ≡ Got r n → recordOf s ≡ r
-unfolding readOf
-reads-record s r n e = go (eqb (length s) 0) (not (isKind (getD s 0 0))) (ltb (length s) (1 + bodyOf (getD s 0 0))) e
-  where
-    go : (a b c : Bool) → pick a Nothing (pick b (Unread 1) (pick c (Unread 2) (Got (recordOf s) (1 + bodyOf (getD s 0 0))))) ≡ Got r n → recordOf s ≡ r
-    go true b c e = let z : _≡_ {A = ℕ} 0 1 = cc in absurd (omega arith)
-    go false true c e = let z : _≡_ {A = ℕ} 0 1 = cc in absurd (omega arith)
-    go false false true e = let z : _≡_ {A = ℕ} 0 1 = cc in absurd (omega arith)
-    go false false false e = cc
-
 pub reads-fit : (s : List ℕ) (r : Record) (n : ℕ) → readOf s ≡ Got r n → Fits r
-reads-fit s r n e = rw (reads-record s r n e) at (fits s)
-
--- the number that a record is refused by: 3 where it is out of its order, else by its kind's own checks; or none
-abbrev pub turnedBy : State → Record → Option ℕ
-turnedBy m r = when (not (eqb (m .phase) (phaseOf r))) 3 (refusal m r)
+reads-fit s r n e = go (readOf s) (begins s) e
+  where
+    go : (x : Read) → Begins s x → x ≡ Got r n → Fits r
+    go x (nothing h) e = let z : _≡_ {A = ℕ} 0 1 = cc in absurd (omega arith)
+    go x (without k h) e = let z : _≡_ {A = ℕ} 0 1 = cc in absurd (omega arith)
+    go x (whole h) e = let q : recordOf s ≡ r = cc in rw q at (fits s)
 
 -- the five ways: the list is too short; no byte is left; the kind is unknown or the body cut off; the record is refused; it is accepted
 pub data Stepped (ask : Record → Answer) (m : State) (room : ℕ) (s : List ℕ) : Done → Type 0 where
@@ -83,30 +75,19 @@ above-refusal m (tally v) = above-when _ 4 _ (omega arith) above-none
 
 module _ (ask : Record → Answer) (m : State) (room : ℕ) (s : List ℕ) where
   pub stepped : Stepped ask m room s (stepBy ask m room s)
-  unfolding stepBy taken
-  stepped = go (ltb room 2560) refl (eqb (length s) 0) refl (not (isKind (getD s 0 0))) refl (ltb (length s) (1 + bodyOf (getD s 0 0))) refl
+  unfolding stepBy stepWith stepFor taken
+  stepped = go (ltb room 2560) refl (readOf s) refl (begins s)
     where
-      r : Record
-      r = recordOf s
+      last : (r : Record) (n : ℕ) → 2560 ≤ room → readOf s ≡ Got r n → 0 < n → (o : Option ℕ) → turnedBy m r ≡ o → Above (turnedBy m r) → Stepped ask m room s (taken ask m n r o)
+      last r n h g pos (some k) e f = turned r n k h g pos e (f k e)
+      last r n h g pos none e f = took r n h g pos e
 
-      n : ℕ
-      n = 1 + bodyOf (getD s 0 0)
-
-      reads : Bool → Bool → Bool → Read
-      reads b c d = pick b Nothing (pick c (Unread 1) (pick d (Unread 2) (Got r n)))
-
-      last : 2560 ≤ room → readOf s ≡ Got r n → (o : Option ℕ) → turnedBy m r ≡ o → Above (turnedBy m r) → Stepped ask m room s (taken ask m n r o)
-      last h g (some k) e f = turned r n k h g (omega arith) e (f k e)
-      last h g none e f = took r n h g (omega arith) e
-
-      go : (a : Bool) → ltb room 2560 ≡ a → (b : Bool) → eqb (length s) 0 ≡ b → (c : Bool) → not (isKind (getD s 0 0)) ≡ c → (d : Bool) → ltb (length s) n ≡ d
-          → Stepped ask m room s (pick a (only m 0 (Refused 0)) (pick b (only m 0 End) (pick c (only m 0 (Refused 1)) (pick d (only m 0 (Refused 2)) (taken ask m n r (turnedBy m r))))))
-      go true ea b eb c ec d ed = short (ltb-true room 2560 ea)
-      go false ea true eb c ec d ed = ended (ltb-false room 2560 ea) (unfold readOf in rw eb)
-      go false ea false eb true ec d ed = unread 1 (ltb-false room 2560 ea) (unfold readOf in rw (eb, ec)) (inl refl)
-      go false ea false eb false ec true ed = unread 2 (ltb-false room 2560 ea) (unfold readOf in rw (eb, ec, ed)) (inr refl)
-      go false ea false eb false ec false ed =
-          last (ltb-false room 2560 ea) (unfold readOf in rw (eb, ec, ed)) (turnedBy m r) refl (above-when _ 3 _ (omega arith) (above-refusal m r))
+      go : (a : Bool) → ltb room 2560 ≡ a → (x : Read) → readOf s ≡ x → Begins s x → Stepped ask m room s (pick a (only m 0 (Refused 0)) (stepFor ask m x))
+      go true e x g b = short (ltb-true room 2560 e)
+      go false e x g (nothing h) = ended (ltb-false room 2560 e) g
+      go false e x g (without k h) = unread k (ltb-false room 2560 e) g h
+      go false e x g (whole h) =
+          last _ _ (ltb-false room 2560 e) g (omega arith) (turnedBy m (recordOf s)) refl (above-when _ 3 _ (omega arith) (above-refusal m (recordOf s)))
 
   -- the way of an accepted record: room for 512 entries, bytes enough, in its order, and refused by no check
   pub accepts : (r : Record) (n : ℕ) → 2560 ≤ room → readOf s ≡ Got r n → m .phase ≡ phaseOf r → refusal m r ≡ none → stepBy ask m room s ≡ accepted ask m n r
@@ -154,23 +135,12 @@ isOk (Yes a) = false
 isOk No = false
 isOk (Tally o l r) = false
 
-unfoldable pub isQuestion : Record → Bool
-isQuestion (hall n) = false
-isQuestion (link s c e) = false
-isQuestion close = false
-isQuestion (insert r l p n t) = false
-isQuestion (remove r) = false
-isQuestion loop = true
-isQuestion (fate v a) = true
-isQuestion (reach v w) = true
-isQuestion (tally v) = true
-
-module _ (m : State) (room : ℕ) (s : List ℕ) where
+module _ (m : State) where
   only-keeps : (n : ℕ) (a : Answer) → Keeps m (only m n a)
   unfolding only
   only-keeps n a = record { state = refl; list = refl }
 
-  question-keeps : (ask : Record → Answer) (n : ℕ) (r : Record) → isQuestion r ≡ true → Keeps m (accepted ask m n r)
+  pub question-keeps : (ask : Record → Answer) (n : ℕ) (r : Record) → isQuestion r ≡ true → Keeps m (accepted ask m n r)
   unfolding isQuestion accepted leaves changes entriesAt
   question-keeps ask n (hall k) e = absurd (true≢false (sym e))
   question-keeps ask n (link t c e) q = absurd (true≢false (sym q))
@@ -194,17 +164,18 @@ module _ (m : State) (room : ℕ) (s : List ℕ) where
   quiet-keeps ask n (reach v w) e = record { state = refl; list = refl }
   quiet-keeps ask n (tally v) e = record { state = refl; list = refl }
 
+module _ (m : State) (room : ℕ) (s : List ℕ) where
   -- THE LAW: whatever is not answered "ok" leaves everything as it was and writes nothing
   pub quiet : isOk (stepOf m room s .answer) ≡ false → Keeps m (stepOf m room s)
   unfolding stepOf
   quiet = go _ (stepped _ m room s)
     where
       go : {ask : Record → Answer} (d : Done) → Stepped ask m room s d → isOk (d .answer) ≡ false → Keeps m d
-      go d (short l) e = only-keeps _ _
-      go d (ended l q) e = only-keeps _ _
-      go d (unread k l q o) e = only-keeps _ _
-      go d (turned r n k l q pos f b) e = only-keeps _ _
-      go d (took r n l q pos f) e = quiet-keeps _ n r e
+      go d (short l) e = only-keeps m _ _
+      go d (ended l q) e = only-keeps m _ _
+      go d (unread k l q o) e = only-keeps m _ _
+      go d (turned r n k l q pos f b) e = only-keeps m _ _
+      go d (took r n l q pos f) e = quiet-keeps m _ n r e
 
   -- a refusal, and "end", leave everything as it was
   pub refused-keeps : (k : ℕ) → stepOf m room s .answer ≡ Refused k → Keeps m (stepOf m room s)
@@ -221,11 +192,11 @@ module _ (m : State) (room : ℕ) (s : List ℕ) where
   asked-keeps r n g h = go _ (stepped _ m room s)
     where
       go : {ask : Record → Answer} (d : Done) → Stepped ask m room s d → Keeps m d
-      go d (short l) = only-keeps _ _
-      go d (ended l q) = only-keeps _ _
-      go d (unread k l q o) = only-keeps _ _
-      go d (turned r n k l q pos f b) = only-keeps _ _
-      go d (took r′ n′ l q pos f) = let x : r′ ≡ r = cc in question-keeps _ n′ r′ (ap isQuestion x ∙ h)
+      go d (short l) = only-keeps m _ _
+      go d (ended l q) = only-keeps m _ _
+      go d (unread k l q o) = only-keeps m _ _
+      go d (turned r n k l q pos f b) = only-keeps m _ _
+      go d (took r′ n′ l q pos f) = let x : r′ ≡ r = cc in question-keeps m _ n′ r′ (ap isQuestion x ∙ h)
 
 -- so of the lent box: every table and the list are as they were
 module _ (m : State) (list s : List ℕ) where
@@ -270,8 +241,8 @@ module _ (m : State) (room : ℕ) (s : List ℕ) where
   writes-nothing = go _ (stepped _ m room s)
     where
       go : {ask : Record → Answer} (d : Done) → Stepped ask m room s d → isChanged (d .answer) ≡ false → d .written ≡ []
-      go d (short l) e = only-keeps m room s _ _ .list
-      go d (ended l q) e = only-keeps m room s _ _ .list
-      go d (unread k l q o) e = only-keeps m room s _ _ .list
-      go d (turned r n k l q pos f b) e = only-keeps m room s _ _ .list
+      go d (short l) e = only-keeps m _ _ .list
+      go d (ended l q) e = only-keeps m _ _ .list
+      go d (unread k l q o) e = only-keeps m _ _ .list
+      go d (turned r n k l q pos f b) e = only-keeps m _ _ .list
       go d (took r n l q pos f) e = unlisted _ n r e

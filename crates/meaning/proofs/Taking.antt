@@ -11,6 +11,7 @@ use lib.ListN.{length, getD, set}
 use borrow.Author.Tests.{eqb-true, eq-eqb, le-ltb, not-false}
 use Rattle.meaning.specs.declared.Answer.{Answer}
 use Rattle.meaning.specs.declared.Answer.the-variants.{End, Refused}
+use Rattle.meaning.specs.declared.Read.{Read}
 use Rattle.meaning.specs.declared.Read.the-variants.{End as Nothing, Refused as Unread, Got}
 use Rattle.meaning.specs.declared.Record.{Record}
 use Rattle.meaning.specs.declared.Record.the-variants.{Hall as hall, Link as link, Close as close, Insert as insert, Remove as remove, Loop as loop, Fate as fate, Reach as reach, Tally as tally}
@@ -19,10 +20,11 @@ use Rattle.meaning.specs.Hall.{State}
 use Rattle.meaning.specs.Rule.{ruleWord}
 use Rattle.meaning.specs.Atoms.{withCut}
 use Rattle.meaning.specs.Questions.{byAddress}
-use Rattle.meaning.specs.Records.{isKind, bodyOf, recordOf, readOf, phaseOf}
-use Rattle.meaning.specs.Step.{Done, refusal, withRule, inserted, leaves, only, answers, accepted, taken, stepBy, stepOf}
+use Rattle.meaning.specs.Records.{recordOf, readOf, phaseOf, isQuestion}
+use Rattle.meaning.specs.Step.{Done, refusal, withRule, inserted, leaves, turnedBy, only, answers, accepted, taken, stepFor, stepWith, stepBy, stepOf}
 use Rattle.meaning.proofs.Sound.{when-none}
-use Rattle.meaning.proofs.Steps.{Stepped, short, ended, unread, turned, took, stepped, isQuestion, turnedBy}
+use Rattle.meaning.proofs.Steps.{Stepped, short, ended, unread, turned, took, stepped}
+use Rattle.meaning.proofs.Begins.{Begins, nothing, unread as without, whole, begins}
 use Rattle.meaning.proofs.Stops.{at-end, stays}
 use Rattle.meaning.proofs.Demands.{refusedBy, Asks, ruleOf, then, Accepts}
 
@@ -65,40 +67,33 @@ pub data Unmoved : Answer → Type 0 where
 module _ (R : Done → Done → Type 0) (m n : State) (room : ℕ) (s : List ℕ) where
   pub both-step : ((k : ℕ) (a : Answer) → Unmoved a → R (only m k a) (only n k a)) → turnedBy m (recordOf s) ≡ turnedBy n (recordOf s)
       → ((k : ℕ) → turnedBy n (recordOf s) ≡ none → R (accepted (byAddress m) m k (recordOf s)) (accepted (byAddress n) n k (recordOf s))) → R (stepOf m room s) (stepOf n room s)
-  unfolding stepOf stepBy taken
-  both-step f e g = rw e (go (ltb room 2560) (eqb (length s) 0) (not (isKind (getD s 0 0))) (ltb (length s) (1 + bodyOf (getD s 0 0))))
+  unfolding stepOf stepBy stepWith stepFor taken
+  both-step f e g = go (ltb room 2560) (readOf s) (begins s)
     where
-      k : ℕ
-      k = 1 + bodyOf (getD s 0 0)
+      last : (k : ℕ) (o : Option ℕ) → turnedBy n (recordOf s) ≡ o → R (taken (byAddress m) m k (recordOf s) o) (taken (byAddress n) n k (recordOf s) o)
+      last k (some j) q = f k (Refused j) (refused j)
+      last k none q = g k q
 
-      last : (o : Option ℕ) → turnedBy n (recordOf s) ≡ o → R (taken (byAddress m) m k (recordOf s) o) (taken (byAddress n) n k (recordOf s) o)
-      last (some j) q = f k (Refused j) (refused j)
-      last none q = g k q
-
-      go : (a b c d : Bool)
-          → R (pick a (only m 0 (Refused 0)) (pick b (only m 0 End) (pick c (only m 0 (Refused 1)) (pick d (only m 0 (Refused 2)) (taken (byAddress m) m k (recordOf s) (turnedBy n (recordOf s)))))))
-          (pick a (only n 0 (Refused 0)) (pick b (only n 0 End) (pick c (only n 0 (Refused 1)) (pick d (only n 0 (Refused 2)) (taken (byAddress n) n k (recordOf s) (turnedBy n (recordOf s)))))))
-      go true b c d = f 0 (Refused 0) (refused 0)
-      go false true c d = f 0 End no-byte
-      go false false true d = f 0 (Refused 1) (refused 1)
-      go false false false true = f 0 (Refused 2) (refused 2)
-      go false false false false = last _ refl
+      go : (a : Bool) (x : Read) → Begins s x
+          → R (pick a (only m 0 (Refused 0)) (stepFor (byAddress m) m x)) (pick a (only n 0 (Refused 0)) (stepFor (byAddress n) n x))
+      go true x b = f 0 (Refused 0) (refused 0)
+      go false x (nothing h) = f 0 End no-byte
+      go false x (without k h) = f 0 (Refused k) (refused k)
+      go false x (whole h) = rw e (last _ _ refl)
 
 -- ---- "end"
 
 reads-nothing : (s : List ℕ) → readOf s ≡ Nothing → length s ≡ 0
-unfolding readOf
-reads-nothing s e = go (eqb (length s) 0) refl (not (isKind (getD s 0 0))) (ltb (length s) (1 + bodyOf (getD s 0 0))) e
+reads-nothing s e = go (readOf s) (begins s) e
   where
-    go : (a : Bool) → eqb (length s) 0 ≡ a → (b c : Bool) → pick a Nothing (pick b (Unread 1) (pick c (Unread 2) (Got (recordOf s) (1 + bodyOf (getD s 0 0))))) ≡ Nothing → length s ≡ 0
-    go true q b c e = eqb-true (length s) 0 q
-    go false q true c e = let z : _≡_ {A = ℕ} 0 1 = cc in absurd (omega arith)
-    go false q false true e = let z : _≡_ {A = ℕ} 0 1 = cc in absurd (omega arith)
-    go false q false false e = let z : _≡_ {A = ℕ} 0 1 = cc in absurd (omega arith)
+    go : (x : Read) → Begins s x → x ≡ Nothing → length s ≡ 0
+    go x (nothing h) e = h
+    go x (without k h) e = let z : _≡_ {A = ℕ} 0 1 = cc in absurd (omega arith)
+    go x (whole h) e = let z : _≡_ {A = ℕ} 0 1 = cc in absurd (omega arith)
 
 -- THE LAW: the answer is "end" exactly when the list is long enough and no byte is left
 pub end-is : (m : State) (room : ℕ) (s : List ℕ) → (stepOf m room s .answer ≡ End) ↔ ((5 * 512 ≤ room) × (length s ≡ 0))
-unfolding stepOf stepBy only accepted
+unfolding stepOf stepBy stepWith stepFor readOf only accepted
 end-is m room s = (λ e. go _ (stepped _ m room s) refl e, λ h. rw (le-ltb room 2560 (h .0), eq-eqb (length s) 0 (h .1)))
   where
     go : (d : Done) → Stepped (byAddress m) m room s d → stepBy (byAddress m) m room s ≡ d → d .answer ≡ End → (5 * 512 ≤ room) × (length s ≡ 0)

@@ -19,14 +19,13 @@ use Rattle.meaning.specs.Rule.{ruleWord, live, linkOf, lengthOf, rank, l
 use Rattle.meaning.specs.Winner.{ruleAt, eligible, winner, linkFor, nextAt}
 use Rattle.meaning.specs.Atoms.{withCut}
 use Rattle.meaning.specs.Questions.{fateOf, loopsAt, circleAt, loopFrom, reachesAt, asked, byAddress}
-use Rattle.meaning.specs.Records.{recordOf, phaseOf}
-use Rattle.meaning.specs.Step.{refusal, withRule, inserted, withNodes, withLink, closed, leaves, only, answers, accepted, stepOf}
+use Rattle.meaning.specs.Records.{recordOf, phaseOf, isQuestion}
+use Rattle.meaning.specs.Step.{refusal, withRule, inserted, withNodes, withLink, closed, leaves, turnedBy, only, answers, accepted, stepOf}
 use Rattle.meaning.specs.Run.{Came, start, more}
 use Rattle.meaning.proofs.Places.{le-or-lt}
 use Rattle.meaning.proofs.Words.{Sized, Fits, link-of, rank-of, lower-of, length-of}
 use Rattle.meaning.proofs.Sound.{Sound, step-keeps, fresh-sound}
 use Rattle.meaning.proofs.Kept.{clear, sound}
-use Rattle.meaning.proofs.Steps.{isQuestion, turnedBy}
 use Rattle.meaning.proofs.Demands.{Twins}
 use Rattle.meaning.proofs.Taking.{by-question, both-step}
 

@@ -6,10 +6,12 @@ use Prim.Native.Nat.{ℕ}
 use lib.ListN.{length}
 use Rattle.meaning.specs.declared.Answer.{Answer}
 use Rattle.meaning.specs.declared.Hall.{Hall}
+use Rattle.meaning.specs.declared.Read.{Read}
 use Rattle.meaning.specs.Hall.{State}
 use Rattle.meaning.specs.Labels.{labelsOf, ownersOf}
 use Rattle.meaning.specs.Changes.{overwrite}
-use Rattle.meaning.specs.Step.{Done, stepOf}
+use Rattle.meaning.specs.Questions.{byAddress}
+use Rattle.meaning.specs.Step.{Done, stepWith, stepOf}
 use Rattle.meaning.specs.Run.{Ran, runOf, Came}
 use Rattle.meaning.specs.Answers.{Said, said}
 
@@ -32,6 +34,14 @@ pub record Held (m : State) (label owner : List ℕ) : Type 0 where
   pub labels : label ≡ labelsOf m
   pub owners : owner ≡ ownersOf m
 
+-- THE PREMISE where only the cuts and the numbers are lent: they are those of such a box
+pub record AtomsHeld (h : Hall) (cut number : List ℕ) : Type 0 where
+  pub link : List ℕ
+  pub rule : List ℕ
+  pub label : List ℕ
+  pub owner : List ℕ
+  pub held : Held (stateOf h link rule cut number) label owner
+
 -- what a step leaves: the answer, the bytes passed, the state, the labels, the owners and the lent list
 pub record Left : Type 0 where
   pub answer : Said
@@ -48,7 +58,11 @@ left a n m label owner list = record { answer = said a; passed = n; state = m; l
 unfoldable pub leftBy : List ℕ → Done → Left
 leftBy list d = left (d .answer) (d .passed) (d .left) (labelsOf (d .left)) (ownersOf (d .left)) (overwrite (d .written) list)
 
--- THE CONTRACT of a step on the bytes s: what is left is this, and nothing else
+-- THE CONTRACT of a step by what was read: what is left is this, and nothing else
+unfoldable pub leftFor : State → List ℕ → Read → Left
+leftFor m list x = leftBy list (stepWith (byAddress m) m (length list) x)
+
+-- THE CONTRACT of a step on the bytes s: the same by what they begin with
 unfoldable pub leftOf : State → List ℕ → List ℕ → Left
 leftOf m list s = leftBy list (stepOf m (length list) s)
 

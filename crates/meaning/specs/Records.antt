@@ -1,7 +1,7 @@
 -- The records: one byte of kind, then a body whose length the kind fixes, with its fields in order; and the order of the records.
 -- s are the bytes from the record's first on; a reader's place is a place of the whole stream. Assumes nothing: these are definitions.
 use mathlib.Core.List.{List, [], _∷_}
-use mathlib.Core.Bool.{Bool, _&&_, not}
+use mathlib.Core.Bool.{Bool, true, false, _&&_, not}
 use Prim.Native.Nat.{ℕ, zero, suc, _+_, _*_, _%_}
 use lib.Dec.{leb, ltb, eqb}
 use lib.ListN.{length, getD, drop}
@@ -70,3 +70,15 @@ phaseOf loop = 2
 phaseOf (fate v a) = 2
 phaseOf (reach v w) = 2
 phaseOf (tally v) = 2
+
+-- the records that ask and change nothing
+unfoldable pub isQuestion : Record → Bool
+isQuestion (hall n) = false
+isQuestion (link s c e) = false
+isQuestion close = false
+isQuestion (insert r l p n t) = false
+isQuestion (remove r) = false
+isQuestion loop = true
+isQuestion (fate v a) = true
+isQuestion (reach v w) = true
+isQuestion (tally v) = true

@@ -8,6 +8,8 @@ use lib.Dec.{leb, ltb, eqb}
 use lib.ListN.{length, getD, set}
 use Rattle.meaning.specs.declared.Record.{Record}
 use Rattle.meaning.specs.declared.Record.the-variants.{Hall as hall, Link as link, Close as close, Insert as insert, Remove as remove, Loop as loop, Fate as fate, Reach as reach, Tally as tally}
+use Rattle.meaning.specs.declared.Read.{Read}
+use Rattle.meaning.specs.declared.Read.the-variants.{End as Nothing, Refused as Unread, Got}
 use Rattle.meaning.specs.declared.Check.{Check}
 use Rattle.meaning.specs.declared.Check.the-variants.{Passed, Refused as Turned}
 use Rattle.meaning.specs.declared.Answer.{Answer}
@@ -19,7 +21,7 @@ use Rattle.meaning.specs.Winner.{ruleAt}
 use Rattle.meaning.specs.Atoms.{isCut, withCut}
 use Rattle.meaning.specs.Changes.{changedPlaces, entriesAt}
 use Rattle.meaning.specs.Questions.{byAddress, byPlace}
-use Rattle.meaning.specs.Records.{isKind, bodyOf, recordOf, phaseOf}
+use Rattle.meaning.specs.Records.{readOf, phaseOf, isQuestion}
 
 -- n where the test holds, else what the next checks say
 unfoldable pub when : Bool → ℕ → Option ℕ → Option ℕ
@@ -64,6 +66,10 @@ refusal m loop = none
 refusal m (fate v a) = when (leb (m .nodes) v) 4 none
 refusal m (reach v w) = when (leb (m .nodes) v) 4 (when (leb (m .nodes) w) 4 none)
 refusal m (tally v) = when (leb (m .nodes) v) 4 none
+
+-- the number by which a record is refused: 3 where it is out of its order, else by its kind's own checks; or none
+abbrev pub turnedBy : State → Record → Option ℕ
+turnedBy m r = when (not (eqb (m .phase) (phaseOf r))) 3 (refusal m r)
 
 -- a check's outcome as such a number
 unfoldable pub checked : Check → Option ℕ
@@ -205,14 +211,19 @@ module _ (ask : Record → Answer) where
   taken m n r (some k) = only m n (Refused k)
   taken m n r none = accepted m n r
 
-  -- the next record of the bytes s, where the lent list has room words: an entry takes 5
+  -- by what was read: at "end", 1 and 2 no byte is gone past
+  unfoldable pub stepFor : State → Read → Done
+  stepFor m Nothing = only m 0 End
+  stepFor m (Unread k) = only m 0 (Refused k)
+  stepFor m (Got r n) = taken m n r (turnedBy m r)
+
+  -- where the lent list has room words: an entry takes 5
+  unfoldable pub stepWith : State → ℕ → Read → Done
+  stepWith m room x = pick (ltb room 2560) (only m 0 (Refused 0)) (stepFor m x)
+
+  -- the next record of the bytes s
   unfoldable pub stepBy : State → ℕ → List ℕ → Done
-  stepBy m room s =
-      pick (ltb room 2560) (only m 0 (Refused 0))
-      (pick (eqb (length s) 0) (only m 0 End)
-      (pick (not (isKind (getD s 0 0))) (only m 0 (Refused 1))
-      (pick (ltb (length s) (1 + bodyOf (getD s 0 0))) (only m 0 (Refused 2))
-      (taken m (1 + bodyOf (getD s 0 0)) (recordOf s) (when (not (eqb (m .phase) (phaseOf (recordOf s)))) 3 (refusal m (recordOf s)))))))
+  stepBy m room s = stepWith m room (readOf s)
 
 -- THE MEANING of one step
 unfoldable pub stepOf : State → ℕ → List ℕ → Done
@@ -221,3 +232,7 @@ stepOf m = stepBy (byAddress m) m
 -- and over places, as code answers
 unfoldable pub stepIn : State → ℕ → List ℕ → Done
 stepIn m = stepBy (byPlace m) m
+
+-- the answer to a question alone; a record that asks nothing is out of its order among questions
+unfoldable pub replyTo : State → Record → Answer
+replyTo m r = pick (isQuestion r) (stepFor (byAddress m) m (Got r 0) .answer) (Refused 3)
