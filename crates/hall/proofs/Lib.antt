@@ -1,10 +1,2 @@
--- Laws of the box's own relations, which the proofs of its functions cite.
-mod Gives
-mod Moves
-mod Standing
-mod Splits
-mod Rules
-mod Sweeping
-mod Updated
+-- Laws that the proofs of the crate's functions cite.
 mod Others
-mod Leads

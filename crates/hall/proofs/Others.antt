@@ -1,5 +1,7 @@
 -- What a record may be that is none of those which a `match` names before its last arm. Assumes nothing.
-use mathlib.Core.Path.{_≡_, refl}
+use mathlib.Core.Path.{_≡_, refl, sym, ap}
+use mathlib.Core.List.{List}
+use mathlib.Core.Bool.{true}
 use mathlib.Core.Logic.{_⊎_, inl, inr}
 use Prim.Native.Nat.{ℕ, _≤_, _<_}
 use native.Mathlib.Omega.{arith}
@@ -7,8 +9,10 @@ use denote.Enum.Declared.{tagOf}
 use Rattle.meaning.proofs.Record.{the-type}
 use Rattle.meaning.specs.declared.Record.{Record}
 use Rattle.meaning.specs.declared.Record.the-variants.{Hall as hall, Link as link, Close as close, Insert as insert, Remove as remove, Loop as loop, Fate as fate, Reach as reach, Tally as tally}
-use Rattle.meaning.specs.Records.{phaseOf}
-use Rattle.hall.specs.Questions.{isQuestion}
+use Rattle.meaning.specs.declared.Read.the-variants.{Got}
+use Rattle.meaning.specs.Hall.{State}
+use Rattle.meaning.specs.Box.{leftFor}
+use Rattle.meaning.specs.Records.{phaseOf, isQuestion}
 
 -- the place of a record's kind among the nine
 abbrev kindOf : Record → ℕ
@@ -38,29 +42,6 @@ not-before r k = go r (from-three (kindOf r) k)
     go (reach _ _) h p = omega (arith, p)
     go (tally _) h p = omega (arith, p)
 
-to-four : (t : ℕ) → (t ≡ 0) ⊎ ((t ≡ 1) ⊎ ((t ≡ 2) ⊎ ((t ≡ 3) ⊎ (t ≡ 4)))) → t ≤ 4
-to-four t (inl e) = omega (arith, e)
-to-four t (inr (inl e)) = omega (arith, e)
-to-four t (inr (inr (inl e))) = omega (arith, e)
-to-four t (inr (inr (inr (inl e)))) = omega (arith, e)
-to-four t (inr (inr (inr (inr e)))) = omega (arith, e)
-
--- no loop, fate, reach or tally: it is no question
-pub no-question : (r : Record) → (kindOf r ≡ 0) ⊎ ((kindOf r ≡ 1) ⊎ ((kindOf r ≡ 2) ⊎ ((kindOf r ≡ 3) ⊎ (kindOf r ≡ 4)))) → isQuestion r → ⊥
-unfolding isQuestion
-no-question r k = go r (to-four (kindOf r) k)
-  where
-    go : (r : Record) → kindOf r ≤ 4 → isQuestion r → ⊥
-    go (hall _) h q = q
-    go (link _ _ _) h q = q
-    go close h q = q
-    go (insert _ _ _ _ _) h q = q
-    go (remove _) h q = q
-    go loop h q = omega (arith, h)
-    go (fate _ _) h q = omega (arith, h)
-    go (reach _ _) h q = omega (arith, h)
-    go (tally _) h q = omega (arith, h)
-
 around : (t : ℕ) → (t ≡ 0) ⊎ ((t ≡ 1) ⊎ ((t ≡ 2) ⊎ ((t ≡ 5) ⊎ ((t ≡ 6) ⊎ ((t ≡ 7) ⊎ (t ≡ 8)))))) → (t ≡ 3 → ⊥) × (t ≡ 4 → ⊥)
 around t (inl e) = (λ h. omega (arith, e, h), λ h. omega (arith, e, h))
 around t (inr (inl e)) = (λ h. omega (arith, e, h), λ h. omega (arith, e, h))
@@ -71,17 +52,21 @@ around t (inr (inr (inr (inr (inr (inl e)))))) = (λ h. omega (arith, e, h), λ 
 around t (inr (inr (inr (inr (inr (inr e)))))) = (λ h. omega (arith, e, h), λ h. omega (arith, e, h))
 
 -- no insert or remove, and after the close: it is a question
-pub question : (r : Record) → (kindOf r ≡ 0) ⊎ ((kindOf r ≡ 1) ⊎ ((kindOf r ≡ 2) ⊎ ((kindOf r ≡ 5) ⊎ ((kindOf r ≡ 6) ⊎ ((kindOf r ≡ 7) ⊎ (kindOf r ≡ 8)))))) → 2 ≤ phaseOf r → isQuestion r
+pub question : (r : Record) → (kindOf r ≡ 0) ⊎ ((kindOf r ≡ 1) ⊎ ((kindOf r ≡ 2) ⊎ ((kindOf r ≡ 5) ⊎ ((kindOf r ≡ 6) ⊎ ((kindOf r ≡ 7) ⊎ (kindOf r ≡ 8)))))) → 2 ≤ phaseOf r → isQuestion r ≡ true
 unfolding phaseOf isQuestion
 question r k = let n = around (kindOf r) k in go r (n .0) (n .1)
   where
-    go : (r : Record) → (kindOf r ≡ 3 → ⊥) → (kindOf r ≡ 4 → ⊥) → 2 ≤ phaseOf r → isQuestion r
-    go (hall _) a b p = omega (arith, p)
-    go (link _ _ _) a b p = omega (arith, p)
-    go close a b p = omega (arith, p)
-    go (insert _ _ _ _ _) a b p = a refl
-    go (remove _) a b p = b refl
-    go loop a b p = tt
-    go (fate _ _) a b p = tt
-    go (reach _ _) a b p = tt
-    go (tally _) a b p = tt
+    go : (r : Record) → (kindOf r ≡ 3 → ⊥) → (kindOf r ≡ 4 → ⊥) → 2 ≤ phaseOf r → isQuestion r ≡ true
+    go (hall _) a b p = absurd (omega (arith, p))
+    go (link _ _ _) a b p = absurd (omega (arith, p))
+    go close a b p = absurd (omega (arith, p))
+    go (insert _ _ _ _ _) a b p = absurd (a refl)
+    go (remove _) a b p = absurd (b refl)
+    go loop a b p = refl
+    go (fate _ _) a b p = refl
+    go (reach _ _) a b p = refl
+    go (tally _) a b p = refl
+
+-- what a record leaves, by what it was told to be
+pub told-leaves : (m : State) (list : List ℕ) (n : ℕ) (r told : Record) → r ≡ told → leftFor m list (Got told n) ≡ leftFor m list (Got r n)
+told-leaves m list n r told e = ap (λ (x : Record). leftFor m list (Got x n)) (sym e)

@@ -1,13 +1,5 @@
-// The box: it reads records, keeps rules, atoms and labels in lent tables, and answers.
-mod ask;
-mod atom;
-mod label;
-mod lead;
+// The hall: one record from the caller's bytes, taken in its order.
 mod link;
-mod rule;
-mod stand;
 mod step;
-mod update;
-mod walk;
 
 pub use step::take_record;

@@ -23,13 +23,6 @@ pub fn pack(source: u8, end: End) -> u16
     source as u16 * 1024 + number_of(end)
 }
 
-// The source of a link, by its word.
-pub fn source_of(word: u16) -> usize
-    ensures { λ r. ⌜ (r ≡ word / 1024) × (r < 64) ⌝ }
-{
-    (word / 1024) as usize
-}
-
 // The end of a link, by its word: with `source_of` the inverse of `pack`, by the laws source-again, end-again and same-end of meaning's
 // proofs/Words. Kept to show this: the box goes by the end's number itself.
 pub fn end_of(word: u16) -> End

@@ -14,10 +14,10 @@ ghost use lib.ListN.{length};
 ghost use Rattle.meaning.specs.Hall.{endNumber};
 ghost use Rattle.meaning.specs.Records.{phaseOf};
 ghost use Rattle.meaning.specs.Step.{checked, refusal};
-ghost use Rattle.meaning.specs.Box.{stateOf, Held, left, leftOf};
+ghost use Rattle.meaning.specs.Box.{stateOf, Held, left, leftFor, leftOf};
+ghost use Rattle.meaning.specs.declared.Read.the-variants.{Got};
 ghost use Rattle.meaning.proofs.Boxes.{takes};
-ghost use Rattle.meaning.specs.declared.Record.the-variants.{Hall as aHall, Link as aLink, Close as aClose, Insert as insertion, Remove as removal};
-ghost use Rattle.hall.specs.Questions.{isQuestion};
+ghost use Rattle.meaning.specs.declared.Record.the-variants.{Hall as aHall, Link as aLink, Close as aClose};
 
 // The phase that a record belongs in.
 fn phase_of(what: Record) -> u8
@@ -153,119 +153,6 @@ fn take_close(h: Hall, passed: usize) -> Step
     }
 }
 
-// ---- the updates
-
-// An insert record.
-fn take_insert(
-    h: Hall,
-    link: &[u16; 64],
-    rule: &mut [u64; 256],
-    cut: &mut [u64; 513],
-    number: &mut [u16; 512],
-    label: &mut [u64; 512],
-    owner: &mut [u16; 8192],
-    list: &mut [u64],
-    passed: usize,
-    r: u16,
-    x: Rule,
-) -> Step
-    requires { ⌜ Held (stateOf h (now link) (now rule) (now cut) (now number)) (now label) (now owner) ⌝ }
-    requires { ⌜ (h .phase ≡ 2) × (2560 ≤ length (now list)) ⌝ }
-    ensures { λ s. ⌜ left (s .answer) (s .passed) (stateOf (s .hall) (now (link .entry)) (now (rule .exit)) (now (cut .exit)) (now (number .exit))) (now (label .exit)) (now (owner .exit)) (now (list .exit))
-        ≡ takes (stateOf h (now (link .entry)) (now (rule .entry)) (now (cut .entry)) (now (number .entry))) (now (list .entry)) passed (insertion r (x .link) (x .prefix) (x .length) (x .priority)) ⌝ }
-{
-    match crate::update::check_insert(h, link, rule, cut, r, x) {
-        Check::Refused(k) => only(h, passed, Answer::Refused(k)),
-        Check::Passed => {
-            let u = crate::update::insert(h, link, rule, cut, number, label, owner, list, r, x);
-            crate::label::known(label);
-            let hall = u.hall;
-            Step {
-                answer: Answer::Changed(u.listed),
-                passed,
-                hall,
-            }
-        }
-    }
-}
-
-// A remove record.
-fn take_remove(
-    h: Hall,
-    link: &[u16; 64],
-    rule: &mut [u64; 256],
-    cut: &[u64; 513],
-    number: &[u16; 512],
-    label: &mut [u64; 512],
-    owner: &mut [u16; 8192],
-    list: &mut [u64],
-    passed: usize,
-    r: u16,
-) -> Step
-    requires { ⌜ Held (stateOf h (now link) (now rule) (now cut) (now number)) (now label) (now owner) ⌝ }
-    requires { ⌜ (h .phase ≡ 2) × (2560 ≤ length (now list)) ⌝ }
-    ensures { λ s. ⌜ left (s .answer) (s .passed) (stateOf (s .hall) (now (link .entry)) (now (rule .exit)) (now (cut .entry)) (now (number .entry))) (now (label .exit)) (now (owner .exit)) (now (list .exit))
-        ≡ takes (stateOf h (now (link .entry)) (now (rule .entry)) (now (cut .entry)) (now (number .entry))) (now (list .entry)) passed (removal r) ⌝ }
-{
-    match crate::update::check_remove(rule, r) {
-        Check::Refused(k) => only(h, passed, Answer::Refused(k)),
-        Check::Passed => {
-            let u = crate::update::remove(h, link, rule, cut, number, label, owner, list, r);
-            crate::label::known(label);
-            let hall = u.hall;
-            Step {
-                answer: Answer::Changed(u.listed),
-                passed,
-                hall,
-            }
-        }
-    }
-}
-
-// ---- the questions
-
-// The answer to a question.
-fn ask(
-    h: Hall,
-    link: &[u16; 64],
-    rule: &[u64; 256],
-    cut: &[u64; 513],
-    number: &[u16; 512],
-    label: &[u64; 512],
-    owner: &[u16; 8192],
-    what: Record,
-) -> Answer
-    requires { ⌜ Held (stateOf h (now link) (now rule) (now cut) (now number)) (now label) (now owner) ⌝ }
-    ensures { λ r. ⌜ (isQuestion what → (list : List ℕ) (passed : ℕ) → left r passed (stateOf h (now (link .entry)) (now (rule .entry)) (now (cut .entry)) (now (number .entry))) (now (label .entry)) (now (owner .entry)) list
-        ≡ takes (stateOf h (now (link .entry)) (now (rule .entry)) (now (cut .entry)) (now (number .entry))) list passed what) ⌝ }
-{
-    match what {
-        Record::Loop => crate::ask::find_loop(h, link, rule, cut, number, label, owner),
-        Record::Fate(v, a) => {
-            if h.nodes <= v {
-                return Answer::Refused(4);
-            }
-            Answer::Went(crate::ask::fate_from(h, link, rule, cut, number, label, owner, v, a))
-        }
-        Record::Reach(v, w) => {
-            if h.nodes <= v {
-                return Answer::Refused(4);
-            }
-            if h.nodes <= w {
-                return Answer::Refused(4);
-            }
-            crate::ask::find_reach(h, link, rule, cut, number, label, owner, v, w)
-        }
-        Record::Tally(v) => {
-            if h.nodes <= v {
-                return Answer::Refused(4);
-            }
-            crate::ask::count_fates(h, link, rule, cut, number, label, owner, v)
-        }
-        _ => Answer::Refused(3),
-    }
-}
-
 // ---- one record
 
 // What a record before the close does: only the links may change.
@@ -298,7 +185,7 @@ fn act(
     requires { ⌜ Held (stateOf h (now link) (now rule) (now cut) (now number)) (now label) (now owner) ⌝ }
     requires { ⌜ (h .phase ≡ phaseOf what) × (2560 ≤ length (now list)) × (2 ≤ h .phase) ⌝ }
     ensures { λ s. ⌜ left (s .answer) (s .passed) (stateOf (s .hall) (now (link .entry)) (now (rule .exit)) (now (cut .exit)) (now (number .exit))) (now (label .exit)) (now (owner .exit)) (now (list .exit))
-        ≡ takes (stateOf h (now (link .entry)) (now (rule .entry)) (now (cut .entry)) (now (number .entry))) (now (list .entry)) passed what ⌝ }
+        ≡ leftFor (stateOf h (now (link .entry)) (now (rule .entry)) (now (cut .entry)) (now (number .entry))) (now (list .entry)) (Got what passed) ⌝ }
 {
     match what {
         Record::Insert(r, l, p, n, t) => {
@@ -308,13 +195,24 @@ fn act(
                 length: n,
                 priority: t,
             };
-            take_insert(h, link, rule, cut, number, label, owner, list, passed, r, x)
+            tables::take_insert(h, link, rule, cut, number, label, owner, list, passed, r, x)
         }
-        Record::Remove(r) => take_remove(h, link, rule, cut, number, label, owner, list, passed, r),
+        Record::Remove(r) => tables::take_remove(
+            h,
+            link,
+            rule,
+            cut,
+            number,
+            label,
+            owner,
+            list,
+            passed,
+            r,
+        ),
         _ => only(
             h,
             passed,
-            ask(h, link, rule, cut, number, label, owner, what),
+            questions::reply(h, link, rule, cut, number, label, owner, what),
         ),
     }
 }

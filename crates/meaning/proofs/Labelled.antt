@@ -191,7 +191,7 @@ module _ (m : State) (S : Sound m) where
           past-off l k (omega arith)
           ∙ sym (ap (λ (x : ℕ). eqb (via x) l) (O .rest k v (omega arith) hk (source-small l)) ∙ ap (λ (x : ℕ). eqb x l) via-none ∙ ne-eqb 64 l (λ q. omega arith))
 
-pub labels-words : (m : State) → Words (labelsOf m)
+labels-words : (m : State) → Words (labelsOf m)
 labels-words m = record { size = labels-length m; word = λ i. go i (decLt i 512) }
   where
     go : (i : ℕ) → Dec (i < 512) → getD (labelsOf m) i 0 < 2 ^ 64
@@ -215,6 +215,9 @@ held-whole m label owner H =
     let S = sound m (H .came) in
     let O = owned-by m owner S (H .owners) in
     record { sound = S; owned = O; agrees = agrees-by m label owner S O (H .labels) }
+
+pub held-words : (m : State) (label owner : List ℕ) → Held m label owner → Words label
+held-words m label owner H = rw (H .labels) (labels-words m)
 
 -- ---- the walk by the tables
 

@@ -1,10 +1,9 @@
 -- `hall::step::act` meets its contract: in each arm what was told of the record turns the part's contract into the whole's. Assumes nothing.
-use mathlib.Core.Path.{sym, ap, subst, _∙_}
+use mathlib.Core.Path.{subst, _∙_}
 use Prim.Native.Nat.{ℕ, _≤_}
 use borrow.Author.Needs.{needs}
-use Rattle.meaning.specs.Records.{phaseOf}
-use Rattle.meaning.proofs.Boxes.{takes}
-use Rattle.hall.proofs.Others.{question}
+use Rattle.meaning.proofs.Boxes.{reply-leaves}
+use Rattle.hall.proofs.Others.{question, told-leaves}
 use Rattle.hall.proofs.step.act.Statement.{statement}
 use Rattle.hall.proofs.step.act.Tie as tie
 
@@ -12,24 +11,16 @@ enum-known-what : tie.Need-enum-known-what
 enum-known-what c = search needs
 
 take-insert-requires : tie.Need-take-insert-requires
-unfolding phaseOf
-take-insert-requires c κs =
-    let w = c .before .before .before .before .before .before .before in
-    let s = w .before .before .before in
-    (s .pre .0, (s .pre .1 .0 ∙ ap phaseOf (w .what .given .1), s .pre .1 .1))
+take-insert-requires c κs = search needs
 
 enum-known-what-2 : tie.Need-enum-known-what-2
 enum-known-what-2 c = search needs
 
 take-remove-requires : tie.Need-take-remove-requires
-unfolding phaseOf
-take-remove-requires c κs =
-    let w = c .before .before .before .before .before .before .before in
-    let s = w .before .before .before in
-    (s .pre .0, (s .pre .1 .0 ∙ ap phaseOf (w .what2 .given .1), s .pre .1 .1))
+take-remove-requires c κs = search needs
 
-ask-requires : tie.Need-ask-requires
-ask-requires c κs = search needs
+reply-requires : tie.Need-reply-requires
+reply-requires c κs = search needs
 
 only-requires : tie.Need-only-requires
 only-requires c κs = search needs
@@ -40,7 +31,7 @@ same-length c = search needs
 returns : tie.Need-returns
 returns c =
     let u = c .before .before in
-    u .take-insert .ensures ∙ ap (takes _ _ _) (sym (u .before .before .before .before .before .before .before .before .what .given .1))
+    u .take-insert .ensures ∙ told-leaves _ _ _ _ _ (u .before .before .before .before .before .before .before .before .what .given .1)
 
 same-length-2 : tie.Need-same-length-2
 same-length-2 c = search needs
@@ -48,14 +39,15 @@ same-length-2 c = search needs
 returns-2 : tie.Need-returns-2
 returns-2 c =
     let u = c .before .before in
-    u .take-remove .ensures ∙ ap (takes _ _ _) (sym (u .before .before .before .before .before .before .before .before .what2 .given .1))
+    u .take-remove .ensures ∙ told-leaves _ _ _ _ _ (u .before .before .before .before .before .before .before .before .what2 .given .1)
 
 returns-3 : tie.Need-returns-3
 returns-3 c =
     let a = c .before in
     let m = a .before .before .before .before .before .before in
     let s = m .before .before in
-    rw (c .only .ensures) (a .ask .ensures (question _ (m .match .keys3) (subst (λ (x : ℕ). 2 ≤ x) (s .pre .1 .0) (s .pre .1 .2))) _ _)
+    rw (c .only .ensures, a .reply .ensures)
+    (reply-leaves _ _ _ _ (s .pre .0) (s .pre .1 .1) _ _ (question _ (m .match .keys3) (subst (λ (x : ℕ). 2 ≤ x) (s .pre .1 .0) (s .pre .1 .2))))
 
 pub act-spec : {M : Type 1} → statement M
 act-spec =
@@ -65,7 +57,7 @@ act-spec =
     take-insert-requires
     enum-known-what-2
     take-remove-requires
-    ask-requires
+    reply-requires
     only-requires
     same-length
     returns

@@ -1,8 +1,8 @@
 -- `hall::step::take_record` meets its contract: too short a list, what was read, the order, and then what the record does. Assumes nothing.
-use mathlib.Core.Path.{sym, _∙_}
+use mathlib.Core.Path.{refl, sym, _∙_}
 use borrow.Author.Needs.{needs}
 use Rattle.meaning.proofs.Labelled.{held-whole}
-use Rattle.meaning.proofs.Boxes.{short-leaves, end-leaves, unread-leaves, disorder-leaves, order-leaves}
+use Rattle.meaning.proofs.Boxes.{short-leaves, end-leaves, unread-leaves, disorder-leaves, order-leaves, read-leaves}
 use Rattle.hall.proofs.step.take_record.Statement.{statement}
 use Rattle.hall.proofs.step.take_record.Tie as tie
 
@@ -12,7 +12,7 @@ only-requires c κs = search needs
 returns : tie.Need-returns
 returns c =
     let d = c .before in
-    rw (c .only .ensures) (short-leaves _ _ _ _ (d .before .before .before .pre) _ (d .if1 .taken))
+    rw (c .only .ensures) (short-leaves _ _ _ _ (d .before .before .before .pre) _ (d .if1 .taken) ∙ read-leaves _ _ _ _ refl)
 
 read-record-requires : tie.Need-read-record-requires
 read-record-requires c κs = search needs
@@ -45,8 +45,8 @@ returns-2 c =
     let d = w .before .before in
     let l = d .before in
     rw (c .only4 .ensures)
-    (disorder-leaves _ _ _ _ (l .before .before .before .pre) _ (l .if1 .left) _ _ (sym (d .read-record .ensures) ∙ w .what .given .1)
-    (λ e. o .if2 .taken (e ∙ sym (o .before .before .phase-of .ensures))))
+    (disorder-leaves _ _ _ _ (l .before .before .before .pre) (l .if1 .left) _ _ (λ e. o .if2 .taken (e ∙ sym (o .before .before .phase-of .ensures)))
+    ∙ read-leaves _ _ _ _ (sym (d .read-record .ensures) ∙ w .what .given .1))
 
 set-up-requires : tie.Need-set-up-requires
 set-up-requires c κs =
@@ -62,7 +62,8 @@ returns-3 c =
     let d = w .before .before in
     let o = e .if2 .left ∙ e .before .before .phase-of .ensures in
     c .set-up .ensures _ _ _ _ _ _ (d .before .before .before .before .pre) o (t .if3 .taken)
-    ∙ order-leaves _ _ _ (d .before .if1 .left) _ _ (sym (d .read-record .ensures) ∙ w .what .given .1) o
+    ∙ order-leaves _ _ (d .before .if1 .left) _ _ o
+    ∙ read-leaves _ _ _ _ (sym (d .read-record .ensures) ∙ w .what .given .1)
 
 act-requires : tie.Need-act-requires
 act-requires c κs =
@@ -77,7 +78,7 @@ returns-4 c =
     let d = t .before .before in
     let l = d .before in
     rw (c .only2 .ensures)
-    (end-leaves _ _ _ _ (l .before .before .before .pre) _ (l .if1 .left) (sym (d .read-record .ensures) ∙ t .enum-told .given .1))
+    (end-leaves _ _ _ _ (l .before .before .before .pre) (l .if1 .left) ∙ read-leaves _ _ _ _ (sym (d .read-record .ensures) ∙ t .enum-told .given .1))
 
 returns-5 : tie.Need-returns-5
 returns-5 c =
@@ -85,7 +86,7 @@ returns-5 c =
     let d = k .before .before in
     let l = d .before in
     rw (c .only3 .ensures)
-    (unread-leaves _ _ _ _ (l .before .before .before .pre) _ (l .if1 .left) _ (sym (d .read-record .ensures) ∙ k .k .given .1))
+    (unread-leaves _ _ _ _ (l .before .before .before .pre) (l .if1 .left) _ ∙ read-leaves _ _ _ _ (sym (d .read-record .ensures) ∙ k .k .given .1))
 
 same-length : tie.Need-same-length
 same-length c = search needs
@@ -93,11 +94,8 @@ same-length c = search needs
 returns-6 : tie.Need-returns-6
 returns-6 c =
     let a = c .before .before in
-    let e = a .before .before .before .before .before .before .before .before .before .before in
-    let w = e .before .before .before .before in
-    let d = w .before .before in
-    a .act .ensures
-    ∙ order-leaves _ _ _ (d .before .if1 .left) _ _ (sym (d .read-record .ensures) ∙ w .what .given .1) (e .if2 .left ∙ e .before .before .phase-of .ensures)
+    let w = a .before .before .before .before .before .before .before .before .before .before .before .before .before .before in
+    a .act .ensures ∙ read-leaves _ _ _ _ (sym (w .before .before .read-record .ensures) ∙ w .what .given .1)
 
 pub take-record-spec : {M : Type 1} → statement M
 take-record-spec =

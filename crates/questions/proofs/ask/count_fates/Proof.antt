@@ -1,0 +1,131 @@
+-- `ask::count_fates` meets its contract. The loop's invariant: each count is that of the addresses below place p. Assumes nothing.
+use borrow.Author.Needs.{needs}
+use mathlib.Core.Path.{_≡_, refl, sym, _∙_}
+use Prim.Native.Nat.{_+_, _-_, _≤_, _<_}
+use native.Mathlib.Omega.{arith}
+use Rattle.meaning.specs.Box.{stateOf}
+use Rattle.meaning.proofs.Carried.{carries-of}
+use Rattle.meaning.proofs.ByPlace.{Tallied, small-atom, tally-none, tally-fits, tally-more, tally-is}
+use Rattle.questions.proofs.Standing.{declared-of}
+use Rattle.questions.proofs.ask.count_fates.Statement.{statement}
+use Rattle.questions.proofs.ask.count_fates.Tie as tie
+
+abbrev Inv-loop : tie.InvT-loop
+Inv-loop h link rule cut number label owner v stand c₀ p₀ c p = (p ≤ h .atoms) × Tallied (stateOf h link rule cut number) v p (c .out) (c .lost) (c .round)
+
+abbrev μ-loop : tie.MeasureT-loop
+μ-loop h link rule cut number label owner v stand c₀ p₀ c p = h .atoms - p
+
+cast-divide : tie.Need-cast-divide Inv-loop μ-loop
+cast-divide c = search needs
+
+divide-requires : tie.Need-divide-requires Inv-loop μ-loop
+divide-requires c κs =
+    let s = c .before .before in
+    let W = s .pre .0 in
+    (declared-of W, s .pre .1 .1, omega (arith, s .pre .1 .0, W .sound .small), refl)
+
+loop-holds : tie.Need-loop-holds Inv-loop μ-loop
+loop-holds c = (omega arith, tally-none _ _)
+
+cast-if1 : tie.Need-cast-if1 Inv-loop μ-loop
+cast-if1 c = search needs
+
+mul-atom : tie.Need-mul-atom Inv-loop μ-loop
+mul-atom c = omega (arith, c .before .before .before .before .before .before .pre .0 .sound .cuts .room)
+
+element-copy-out-atom : tie.Need-element-copy-out-atom Inv-loop μ-loop
+element-copy-out-atom c = omega (arith, c .before .before .before .before .before .before .pre .0 .sound .cuts .room)
+
+cast-atom : tie.Need-cast-atom Inv-loop μ-loop
+cast-atom c = omega (arith, small-atom _ _ _ (c .before .before .before .before .before .before .before .pre .0) _ (c .before .if1 .taken))
+
+in-row-requires : tie.Need-in-row-requires Inv-loop μ-loop
+in-row-requires c κs =
+    let l = c .before .before .before .before in
+    (omega arith, small-atom _ _ _ (l .before .before .before .before .pre .0) _ (omega arith))
+
+in-row-requires-2 : tie.Need-in-row-requires-2 Inv-loop μ-loop
+in-row-requires-2 c κs =
+    let l = c .before .before .before .before .before .before in
+    (omega arith, small-atom _ _ _ (l .before .before .before .before .pre .0) _ (omega arith))
+
+add-counted : tie.Need-add-counted Inv-loop μ-loop
+add-counted c = search needs
+
+mul-counted : tie.Need-mul-counted Inv-loop μ-loop
+mul-counted c = search needs
+
+element-copy-out-counted : tie.Need-element-copy-out-counted Inv-loop μ-loop
+element-copy-out-counted c = search needs
+
+mul-counted-2 : tie.Need-mul-counted-2 Inv-loop μ-loop
+mul-counted-2 c = search needs
+
+element-copy-out-counted-2 : tie.Need-element-copy-out-counted-2 Inv-loop μ-loop
+element-copy-out-counted-2 c = search needs
+
+sub-counted : tie.Need-sub-counted Inv-loop μ-loop
+sub-counted c =
+    let l = c .before .before .before .before .before .before .before .before .before in
+    let W = l .before .before .before .before .pre .0 in
+    omega (arith, W .sound .cuts .up (l .loop .p) (l .loop .p + 1) (omega arith) (omega arith))
+
+counted-requires : tie.Need-counted-requires Inv-loop μ-loop
+counted-requires c κs =
+    let l = c .before .before .before .before .before .before .before .before .before in
+    tally-fits _ _ _ (l .before .before .before .before .pre .0) _ _ _ _ _ (omega arith) (l .loop .inv .1)
+
+add-p : tie.Need-add-p Inv-loop μ-loop
+add-p c = search needs
+
+loop-less : tie.Need-loop-less Inv-loop μ-loop
+loop-less c = search needs
+
+loop-again : tie.Need-loop-again Inv-loop μ-loop
+loop-again c =
+    let l = c .before .before .before .before .before .before .before .before .before .before in
+    let s = l .before .before .before .before in
+    let W = s .pre .0 in
+    let D = l .before .divide .ensures in
+    let h = c .before .before .before .before .before .before .before .before .if1 .taken in
+    let k = small-atom _ _ _ W _ h in
+    let C = carries-of _ _ _ W in
+    let o = c .before .before .before .before .before .in-row .ensures ∙ D .out _ _ _ C (s .pre .1 .0) k in
+    let t = c .before .before .before .in-row2 .ensures ∙ D .lost _ _ _ C (s .pre .1 .0) k in
+    let n = c .counted .ensures _ (sym o) (sym t) in
+    (omega (arith, h), rw (n .out, n .lost, n .round) (tally-more _ _ _ W _ _ _ _ _ h (l .loop .inv .1) _ refl))
+
+returns : tie.Need-returns Inv-loop μ-loop
+returns c =
+    let l = c .before .before in
+    let s = l .before .before .before .before in
+    let e : l .loop .p ≡ s .args .h .atoms = omega arith in
+    sym (tally-is _ _ _ (s .pre .0) _ _ _ _ (rw e at (l .loop .inv .1)))
+
+pub count-fates-spec : {M : Type 1} → statement M
+count-fates-spec =
+    tie.close
+    (tie.spec
+    Inv-loop
+    μ-loop
+    cast-divide
+    divide-requires
+    loop-holds
+    cast-if1
+    mul-atom
+    element-copy-out-atom
+    cast-atom
+    in-row-requires
+    in-row-requires-2
+    add-counted
+    mul-counted
+    element-copy-out-counted
+    mul-counted-2
+    element-copy-out-counted-2
+    sub-counted
+    counted-requires
+    add-p
+    loop-less
+    loop-again
+    returns)

@@ -1,0 +1,173 @@
+-- `ask::find_loop` meets its contract. The outer loop's invariant: no loop is found, and at no place below p a node lies on a circle.
+-- The inner loop's: nor of the atom at place p a node of `off`, which every node below v is. Assumes nothing.
+use borrow.Author.Needs.{needs}
+use mathlib.Core.Path.{_≡_, refl, sym, _∙_}
+use mathlib.Core.Logic.{_⊎_, inl, inr, ⊎-elim}
+use mathlib.Core.Bool.{true, false, true≢false}
+use mathlib.Core.Option.{Option}
+use Prim.Native.Nat.{ℕ, _-_, _≤_, _<_}
+use native.Mathlib.Nat.{eq-or-lt-of-le}
+use native.Mathlib.Omega.{arith}
+use borrow.Author.Count.{below-more}
+use Rattle.meaning.specs.declared.Answer.the-variants.{NoLoop}
+use Rattle.meaning.proofs.Owners.{nextIn, endIn}
+use Rattle.meaning.proofs.Places.{le-or-lt}
+use Rattle.meaning.proofs.Moving.{among, Off}
+use Rattle.meaning.proofs.ByPlace.{linksAt, NoCircle, small-atom, ends-of, loop-none, loop-is}
+use Rattle.questions.specs.Moves.{seen, Below, Within}
+use Rattle.questions.proofs.Leads.{together, no-loop}
+use Rattle.questions.proofs.ask.find_loop.Statement.{statement}
+use Rattle.questions.proofs.ask.find_loop.Tie as tie
+
+abbrev Inv-loop : tie.InvT-loop
+Inv-loop link rule cut number label owner atoms nodes never answer₀ p atom off₀ v₀ answer off v = (answer ≡ NoLoop) × Below off v × Off (nextIn owner atom) (endIn link) nodes off
+
+abbrev μ-loop : tie.MeasureT-loop
+μ-loop link rule cut number label owner atoms nodes never answer₀ p atom off₀ v₀ answer off v = nodes - v
+
+abbrev Inv-search : tie.InvT-search
+Inv-search link rule cut number label owner atoms nodes never answer₀ p₀ answer p = (p ≤ atoms) × (answer ≡ NoLoop) × ((q : ℕ) → q < p → NoCircle (linksAt number owner q) (endIn link) nodes nodes)
+
+abbrev μ-search : tie.MeasureT-search
+μ-search link rule cut number label owner atoms nodes never answer₀ p₀ answer p = atoms - p
+
+-- the nodes of `off` lie on no circle, and every node below v is one of them
+clear : (next : ℕ → Option ℕ) (end : ℕ → ℕ) (n off v : ℕ) → Off next end n off → Below off v → NoCircle next end n v
+clear next end n off v F b u l = F .none-on u (b u l)
+
+-- where v has joined them, the lowest node that is none of them is above v
+above : (off more v r : ℕ) → v < 16 → Below off v → (among more v ≡ true) → Within off more → (r < 16 → among more r ≡ false) → v < r
+above off more v r h b e w f = ⊎-elim (λ (l : r ≤ v). absurd (true≢false (sym (go (eq-or-lt-of-le l)) ∙ f (omega arith)))) (λ (l : v < r). l) (le-or-lt r v)
+  where
+    go : (r ≡ v) ⊎ (r < v) → among more r ≡ true
+    go (inl q) = rw q e
+    go (inr l) = w r (b r l)
+
+cast-atoms : tie.Need-cast-atoms Inv-loop μ-loop Inv-search μ-search
+cast-atoms c = search needs
+
+off-walks-requires : tie.Need-off-walks-requires Inv-loop μ-loop Inv-search μ-search
+off-walks-requires c κs = search needs
+
+returns : tie.Need-returns Inv-loop μ-loop Inv-search μ-search
+returns c = sym (no-loop _ _ _ (c .before .before .before .pre) _ (c .before .off-walks .ensures) (c .if1 .taken))
+
+search-holds : tie.Need-search-holds Inv-loop μ-loop Inv-search μ-search
+search-holds c = (omega arith, refl, λ q l. absurd (omega arith))
+
+mul-atom : tie.Need-mul-atom Inv-loop μ-loop Inv-search μ-search
+mul-atom c = omega (arith, c .before .before .before .before .before .pre .sound .cuts .room)
+
+element-copy-out-atom : tie.Need-element-copy-out-atom Inv-loop μ-loop Inv-search μ-search
+element-copy-out-atom c = omega (arith, c .before .before .before .before .before .pre .sound .cuts .room)
+
+cast-atom : tie.Need-cast-atom Inv-loop μ-loop Inv-search μ-search
+cast-atom c = omega (arith, small-atom _ _ _ (c .before .before .before .before .before .before .pre) _ (c .before .search-test .taken))
+
+first-on-requires : tie.Need-first-on-requires Inv-loop μ-loop Inv-search μ-search
+first-on-requires c κs = search needs
+
+loop-holds : tie.Need-loop-holds Inv-loop μ-loop Inv-search μ-search
+loop-holds c =
+    let i = c .before .before in
+    let s = i .before in
+    let W = s .before .before .before .before .pre in
+    let F = s .before .before .off-walks .ensures .each _ (together _ _ _ W) _ _ (small-atom _ _ _ W _ (i .search-test .taken)) in
+    (s .search .inv .1, c .first-on .ensures .1, F)
+
+look-requires : tie.Need-look-requires Inv-loop μ-loop Inv-search μ-search
+look-requires c κs =
+    let i = c .before .before .before .before in
+    let W = i .before .before .before .before .before .pre in
+    (small-atom _ _ _ W _ (i .search-test .taken), omega (arith, W .sound .small), W .sound .small, ends-of _ _ _ W, c .before .loop .inv .2)
+
+enum-told : tie.Need-enum-told Inv-loop μ-loop Inv-search μ-search
+enum-told c = search needs
+
+mul-t25 : tie.Need-mul-t25 Inv-loop μ-loop Inv-search μ-search
+mul-t25 c =
+    let s = c .before .before .before .before .before .before .before .before in
+    omega (arith, s .before .before .before .before .pre .sound .cuts .room)
+
+element-copy-out-t28 : tie.Need-element-copy-out-t28 Inv-loop μ-loop Inv-search μ-search
+element-copy-out-t28 c =
+    let s = c .before .before .before .before .before .before .before .before in
+    omega (arith, s .before .before .before .before .pre .sound .cuts .room)
+
+enum-known-more : tie.Need-enum-known-more Inv-loop μ-loop Inv-search μ-search
+enum-known-more c = search needs
+
+first-on-requires-2 : tie.Need-first-on-requires-2 Inv-loop μ-loop Inv-search μ-search
+first-on-requires-2 c κs = search needs
+
+loop-less : tie.Need-loop-less Inv-loop μ-loop Inv-search μ-search
+unfolding seen
+loop-less c =
+    let l = c .before .before .before .before .before .before in
+    let W = l .before .before .before .before .before .before .before .before .pre in
+    let q = rw (c .before .before .more .given .1) at (c .before .before .before .before .look .ensures) in
+    let h = above _ _ _ _ (omega (arith, W .sound .small)) (l .loop .inv .1) (q .1) (q .2) (c .first-on2 .ensures .2) in
+    omega arith
+
+loop-again : tie.Need-loop-again Inv-loop μ-loop Inv-search μ-search
+unfolding seen
+loop-again c =
+    let l = c .before .before .before .before .before .before in
+    let q = rw (c .before .before .more .given .1) at (c .before .before .before .before .look .ensures) in
+    (l .loop .inv .0, c .first-on2 .ensures .1, q .0)
+
+add-p : tie.Need-add-p Inv-loop μ-loop Inv-search μ-search
+add-p c = search needs
+
+search-less : tie.Need-search-less Inv-loop μ-loop Inv-search μ-search
+search-less c = search needs
+
+search-again : tie.Need-search-again Inv-loop μ-loop Inv-search μ-search
+search-again c =
+    let l = c .before in
+    let s = l .before .before .before .before in
+    (omega arith, l .loop .inv .0, below-more _ _ (s .search .inv .2) (λ u h. clear _ _ _ _ _ (l .loop .inv .2) (l .loop .inv .1) u (omega arith)))
+
+returns-2 : tie.Need-returns-2 Inv-loop μ-loop Inv-search μ-search
+returns-2 c =
+    let s = c .before in
+    s .search .inv .1 ∙ sym (loop-none _ _ _ (s .before .before .before .before .pre) (λ q h. s .search .inv .2 q (omega arith)))
+
+returns-3 : tie.Need-returns-3 Inv-loop μ-loop Inv-search μ-search
+unfolding seen
+returns-3 c =
+    let l = c .before .before .before .before .before in
+    let s = l .before .before .before .before in
+    let q = rw (c .before .enum-told .given .1) at (c .before .before .before .look .ensures) in
+    sym (loop-is _ _ _ (s .before .before .before .before .pre) _ _ (omega arith) (omega arith) (s .search .inv .2) (clear _ _ _ _ _ (l .loop .inv .2) (l .loop .inv .1)) q)
+
+pub find-loop-spec : {M : Type 1} → statement M
+find-loop-spec =
+    tie.close
+    (tie.spec
+    Inv-loop
+    μ-loop
+    Inv-search
+    μ-search
+    cast-atoms
+    off-walks-requires
+    returns
+    search-holds
+    mul-atom
+    element-copy-out-atom
+    cast-atom
+    first-on-requires
+    loop-holds
+    look-requires
+    enum-told
+    mul-t25
+    element-copy-out-t28
+    enum-known-more
+    first-on-requires-2
+    loop-less
+    loop-again
+    add-p
+    search-less
+    search-again
+    returns-2
+    returns-3)

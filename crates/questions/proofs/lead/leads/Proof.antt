@@ -1,0 +1,41 @@
+-- `lead::leads` meets its contract. The loop's invariant: the links below l are taken in. Assumes nothing.
+use borrow.Author.Needs.{needs}
+use mathlib.Core.Path.{_≡_}
+use Prim.Native.Nat.{_-_, _≤_}
+use native.Mathlib.Omega.{arith}
+use Rattle.questions.specs.Leads.{Leads}
+use Rattle.questions.proofs.Leads.{leads-none}
+use Rattle.questions.proofs.lead.leads.Statement.{statement}
+use Rattle.questions.proofs.lead.leads.Tie as tie
+
+abbrev Inv-loop : tie.InvT-loop
+Inv-loop link label lead₀ l₀ lead l = (l ≤ 64) × Leads link label l lead
+
+abbrev μ-loop : tie.MeasureT-loop
+μ-loop link label lead₀ l₀ lead l = 64 - l
+
+loop-holds : tie.Need-loop-holds Inv-loop μ-loop
+loop-holds c = (omega arith, leads-none _ _ _)
+
+take-in-requires : tie.Need-take-in-requires Inv-loop μ-loop
+take-in-requires c κs = search needs
+
+add-l : tie.Need-add-l Inv-loop μ-loop
+add-l c = search needs
+
+loop-less : tie.Need-loop-less Inv-loop μ-loop
+loop-less c = search needs
+
+loop-again : tie.Need-loop-again Inv-loop μ-loop
+loop-again c = search needs
+
+returns : tie.Need-returns Inv-loop μ-loop
+returns c =
+    let s = c .before in
+    let e : s .loop .l ≡ 64 = omega arith in
+    rw e at (s .loop .inv .1)
+
+pub leads-spec : {M : Type 1} → statement M
+leads-spec =
+    tie.close
+    (tie.spec Inv-loop μ-loop loop-holds take-in-requires add-l loop-less loop-again returns)

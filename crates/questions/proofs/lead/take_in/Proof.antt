@@ -1,0 +1,57 @@
+-- `lead::take_in` meets its contract: one way out for each reason that link l leads nowhere. Assumes nothing.
+use borrow.Author.Needs.{needs}
+use native.Mathlib.Omega.{arith}
+use Rattle.questions.proofs.Leads.{leads-joined, leads-empty, leads-out, leads-from}
+use Rattle.questions.proofs.lead.take_in.Statement.{statement}
+use Rattle.questions.proofs.lead.take_in.Tie as tie
+
+mul-end : tie.Need-mul-end
+mul-end c = search needs
+
+element-copy-out-end : tie.Need-element-copy-out-end
+element-copy-out-end c = search needs
+
+returns : tie.Need-returns
+returns c = leads-out _ _ _ _ (c .before .before .pre .1) (c .if1 .taken)
+
+mul-source-of : tie.Need-mul-source-of
+mul-source-of c = search needs
+
+element-copy-out-source-of : tie.Need-element-copy-out-source-of
+element-copy-out-source-of c = search needs
+
+source-of-requires : tie.Need-source-of-requires
+source-of-requires c κs = search needs
+
+returns-2 : tie.Need-returns-2
+returns-2 c = leads-from _ _ _ _ (c .before .before .before .before .before .pre .1) (omega arith)
+
+carries-requires : tie.Need-carries-requires
+carries-requires c κs = search needs
+
+join-requires : tie.Need-join-requires
+join-requires c κs = search needs
+
+returns-3 : tie.Need-returns-3
+returns-3 c =
+    let s = c .before .before .before .before .before in
+    leads-joined _ _ _ _ (s .before .before .before .before .pre .1) _ _ (s .source-of .ensures .0) (c .join .ensures)
+
+returns-4 : tie.Need-returns-4
+returns-4 c = leads-empty _ _ _ _ (c .before .before .before .before .before .before .before .pre .1) (c .before .carries .ensures (c .if3 .left))
+
+pub take-in-spec : {M : Type 1} → statement M
+take-in-spec =
+    tie.close
+    (tie.spec
+    mul-end
+    element-copy-out-end
+    returns
+    mul-source-of
+    element-copy-out-source-of
+    source-of-requires
+    returns-2
+    carries-requires
+    join-requires
+    returns-3
+    returns-4)

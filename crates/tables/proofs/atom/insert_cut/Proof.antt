@@ -1,0 +1,61 @@
+-- `atom::insert_cut` meets its contract. The loop's invariant: to put what is carried in at j is to put b in at p of the list at entry.
+-- Past the used part all is 0. Assumes nothing.
+use Prim.Native.Nat.{_+_, _-_}
+use native.Mathlib.Omega.{arith}
+use Rattle.meaning.proofs.Insert.{Shifting, shift-start, shift-step, shift-end}
+use borrow.Author.Needs.{needs}
+use Rattle.tables.proofs.atom.insert_cut.Statement.{statement}
+use Rattle.tables.proofs.atom.insert_cut.Tie as tie
+
+abbrev Inv-loop : tie.InvT-loop
+Inv-loop cut₀ n p b carry₀ j₀ cut carry j = Shifting (n + 1) p b cut₀ cut carry j
+
+abbrev μ-loop : tie.MeasureT-loop
+μ-loop cut₀ n p b carry₀ j₀ cut carry j = n + 2 - j
+
+loop-holds : tie.Need-loop-holds Inv-loop μ-loop
+loop-holds c = shift-start _ _ _ _ (omega arith) (λ q h. c .pre .0 .rest q (omega arith))
+
+add-loop : tie.Need-add-loop Inv-loop μ-loop
+add-loop c = search needs
+
+mul-old : tie.Need-mul-old Inv-loop μ-loop
+mul-old c = search needs
+
+element-copy-out-old : tie.Need-element-copy-out-old Inv-loop μ-loop
+element-copy-out-old c = search needs
+
+mul-cut : tie.Need-mul-cut Inv-loop μ-loop
+mul-cut c = search needs
+
+element-write-cut : tie.Need-element-write-cut Inv-loop μ-loop
+element-write-cut c = search needs
+
+add-j : tie.Need-add-j Inv-loop μ-loop
+add-j c = search needs
+
+loop-less : tie.Need-loop-less Inv-loop μ-loop
+loop-less c = search needs
+
+loop-again : tie.Need-loop-again Inv-loop μ-loop
+loop-again c = shift-step (c .before .before .loop .inv)
+
+returns : tie.Need-returns Inv-loop μ-loop
+returns c = shift-end (c .before .loop .inv) (omega arith)
+
+pub insert-cut-spec : {M : Type 1} → statement M
+insert-cut-spec =
+    tie.close
+    (tie.spec
+    Inv-loop
+    μ-loop
+    loop-holds
+    add-loop
+    mul-old
+    element-copy-out-old
+    mul-cut
+    element-write-cut
+    add-j
+    loop-less
+    loop-again
+    returns)

@@ -1,0 +1,61 @@
+-- `atom::insert_number` meets its contract. The loop's invariant: to put what is carried in at j is to put k in at p of the list at entry.
+-- Past the used part all is 0. Assumes nothing.
+use Prim.Native.Nat.{_+_, _-_}
+use native.Mathlib.Omega.{arith}
+use Rattle.meaning.proofs.Insert.{Shifting, shift-start, shift-step, shift-end}
+use borrow.Author.Needs.{needs}
+use Rattle.tables.proofs.atom.insert_number.Statement.{statement}
+use Rattle.tables.proofs.atom.insert_number.Tie as tie
+
+abbrev Inv-loop : tie.InvT-loop
+Inv-loop number₀ n p k carry₀ j₀ number carry j = Shifting n p k number₀ number carry j
+
+abbrev μ-loop : tie.MeasureT-loop
+μ-loop number₀ n p k carry₀ j₀ number carry j = n + 1 - j
+
+loop-holds : tie.Need-loop-holds Inv-loop μ-loop
+loop-holds c = shift-start _ _ _ _ (omega arith) (λ q h. c .pre .0 .rest q (omega arith))
+
+add-loop : tie.Need-add-loop Inv-loop μ-loop
+add-loop c = search needs
+
+mul-old : tie.Need-mul-old Inv-loop μ-loop
+mul-old c = search needs
+
+element-copy-out-old : tie.Need-element-copy-out-old Inv-loop μ-loop
+element-copy-out-old c = search needs
+
+mul-number : tie.Need-mul-number Inv-loop μ-loop
+mul-number c = search needs
+
+element-write-number : tie.Need-element-write-number Inv-loop μ-loop
+element-write-number c = search needs
+
+add-j : tie.Need-add-j Inv-loop μ-loop
+add-j c = search needs
+
+loop-less : tie.Need-loop-less Inv-loop μ-loop
+loop-less c = search needs
+
+loop-again : tie.Need-loop-again Inv-loop μ-loop
+loop-again c = shift-step (c .before .before .loop .inv)
+
+returns : tie.Need-returns Inv-loop μ-loop
+returns c = shift-end (c .before .loop .inv) (omega arith)
+
+pub insert-number-spec : {M : Type 1} → statement M
+insert-number-spec =
+    tie.close
+    (tie.spec
+    Inv-loop
+    μ-loop
+    loop-holds
+    add-loop
+    mul-old
+    element-copy-out-old
+    mul-number
+    element-write-number
+    add-j
+    loop-less
+    loop-again
+    returns)

@@ -1,0 +1,60 @@
+-- `rule::lacks_rank` meets its contract. The loop's invariant: while the highest bit stays, no word below i has the rank. Assumes nothing.
+use mathlib.Core.Path.{_≡_}
+use Prim.Native.Nat.{_-_, _≤_}
+use native.Mathlib.Omega.{arith}
+use borrow.Author.Needs.{needs}
+use borrow.Author.Tests.{leb-true}
+use Rattle.tables.proofs.Rules.{Lacks, lacks-none, lacks-more}
+use Rattle.tables.proofs.rule.lacks_rank.Statement.{statement}
+use Rattle.tables.proofs.rule.lacks_rank.Tie as tie
+
+abbrev Inv-loop : tie.InvT-loop
+Inv-loop rule w all₀ i₀ all i = (i ≤ 256) × Lacks rule w all i
+
+abbrev μ-loop : tie.MeasureT-loop
+μ-loop rule w all₀ i₀ all i = 256 - i
+
+loop-holds : tie.Need-loop-holds Inv-loop μ-loop
+loop-holds c = (search needs, lacks-none)
+
+mul-rank-gap : tie.Need-mul-rank-gap Inv-loop μ-loop
+mul-rank-gap c = search needs
+
+element-copy-out-rank-gap : tie.Need-element-copy-out-rank-gap Inv-loop μ-loop
+element-copy-out-rank-gap c = search needs
+
+rank-gap-requires : tie.Need-rank-gap-requires Inv-loop μ-loop
+rank-gap-requires c κs = search needs
+
+add-all : tie.Need-add-all Inv-loop μ-loop
+add-all c = search needs
+
+add-i : tie.Need-add-i Inv-loop μ-loop
+add-i c = search needs
+
+loop-less : tie.Need-loop-less Inv-loop μ-loop
+loop-less c = search needs
+
+loop-again : tie.Need-loop-again Inv-loop μ-loop
+loop-again c = (search needs, lacks-more (c .before .before .before .loop .inv .1) (c .rank-gap .ensures .0))
+
+returns : tie.Need-returns Inv-loop μ-loop
+returns c =
+    let done : c .before .loop .i ≡ 256 = omega arith in
+    λ e. (rw done at (c .before .loop .inv .1)) .other (leb-true _ _ e)
+
+pub lacks-rank-spec : {M : Type 1} → statement M
+lacks-rank-spec =
+    tie.close
+    (tie.spec
+    Inv-loop
+    μ-loop
+    loop-holds
+    mul-rank-gap
+    element-copy-out-rank-gap
+    rank-gap-requires
+    add-all
+    add-i
+    loop-less
+    loop-again
+    returns)

@@ -1,0 +1,75 @@
+-- `rule::links_at` meets its contract. The loop's invariant: the links below l are marked where their source is v. Assumes nothing.
+use mathlib.Core.Path.{_≡_, ap, _∙_}
+use Prim.Native.Nat.{ℕ, _-_, _/_, _≤_, _<_}
+use native.Mathlib.Omega.{arith}
+use lib.Dec.{eqb}
+use lib.ListN.{length, length-set, getD}
+use borrow.Author.Needs.{needs}
+use Rattle.tables.specs.Gathered.{maskOf}
+use Rattle.tables.proofs.Rules.{Marking, marked-none, marked-more, marked-all}
+use Rattle.tables.proofs.rule.links_at.Statement.{statement}
+use Rattle.tables.proofs.rule.links_at.Tie as tie
+
+abbrev Inv-loop : tie.InvT-loop
+Inv-loop link v s₀ l₀ s l = (l ≤ 64) × Marking link v s l
+
+abbrev μ-loop : tie.MeasureT-loop
+μ-loop link v s₀ l₀ s l = 64 - l
+
+loop-holds : tie.Need-loop-holds Inv-loop μ-loop
+loop-holds c = (search needs, marked-none (search needs))
+
+mul-source-of : tie.Need-mul-source-of Inv-loop μ-loop
+mul-source-of c = search needs
+
+element-copy-out-source-of : tie.Need-element-copy-out-source-of Inv-loop μ-loop
+element-copy-out-source-of c = search needs
+
+source-of-requires : tie.Need-source-of-requires Inv-loop μ-loop
+source-of-requires c κs = search needs
+
+mask-of-requires : tie.Need-mask-of-requires Inv-loop μ-loop
+mask-of-requires c κs = search needs
+
+mul-s : tie.Need-mul-s Inv-loop μ-loop
+mul-s c = search needs
+
+slice-write-s : tie.Need-slice-write-s Inv-loop μ-loop
+slice-write-s c = search needs
+
+add-l : tie.Need-add-l Inv-loop μ-loop
+add-l c = search needs
+
+loop-less : tie.Need-loop-less Inv-loop μ-loop
+loop-less c = search needs
+
+loop-again : tie.Need-loop-again Inv-loop μ-loop
+loop-again c =
+    let l = c .before .before .before .before in (
+      search needs,
+      marked-more (l .loop .inv .1) (omega arith) _
+          (c .mask-of .ensures ∙ ap (λ (r : ℕ). maskOf (eqb r (l .before .before .args .v))) (c .before .source-of .ensures .0)),
+    )
+
+returns : tie.Need-returns Inv-loop μ-loop
+returns c =
+    let done : c .before .loop .l ≡ 64 = omega arith in
+    marked-all (rw done at (c .before .loop .inv .1))
+
+pub links-at-spec : {M : Type 1} → statement M
+links-at-spec =
+    tie.close
+    (tie.spec
+    Inv-loop
+    μ-loop
+    loop-holds
+    mul-source-of
+    element-copy-out-source-of
+    source-of-requires
+    mask-of-requires
+    mul-s
+    slice-write-s
+    add-l
+    loop-less
+    loop-again
+    returns)

@@ -1,0 +1,62 @@
+-- `rule::take_in` meets its contract. Assumes nothing.
+use mathlib.Core.Bool.{true≢false}
+use mathlib.Core.Path.{sym, _∙_}
+use borrow.Author.Needs.{needs}
+use Rattle.tables.proofs.Rules.{stands-marked, gathered-take, gathered-skip}
+use Rattle.tables.proofs.rule.take_in.Statement.{statement}
+use Rattle.tables.proofs.rule.take_in.Tie as tie
+
+mul-x : tie.Need-mul-x
+mul-x c = search needs
+
+element-copy-out-x : tie.Need-element-copy-out-x
+element-copy-out-x c = search needs
+
+stands-on-requires : tie.Need-stands-on-requires
+stands-on-requires c κs = search needs
+
+overlaps-requires : tie.Need-overlaps-requires
+overlaps-requires c κs = search needs
+
+cast-numbers : tie.Need-cast-numbers
+cast-numbers c = search needs
+
+mul-numbers : tie.Need-mul-numbers
+mul-numbers c = search needs
+
+slice-write-numbers : tie.Need-slice-write-numbers
+slice-write-numbers c = search needs
+
+add-result : tie.Need-add-result
+add-result c = search needs
+
+returns : tie.Need-returns
+returns c =
+    let o = c .before .before in
+    let s = o .before .before in
+    (search needs, λ link v m g. gathered-take g (search needs) (sym (stands-marked link v _ _ _ m (s .stands-on .ensures)) ∙ o .before .if1 .taken))
+
+returns-2 : tie.Need-returns-2
+returns-2 c = (search needs, λ link v m g. gathered-skip g (λ _ e. true≢false (sym e ∙ sym (c .before .overlaps .ensures) ∙ c .if2 .left)))
+
+returns-3 : tie.Need-returns-3
+returns-3 c = (
+  search needs,
+  λ link v m g. gathered-skip g (λ e _. true≢false (sym e ∙ sym (stands-marked link v _ _ _ m (c .before .stands-on .ensures)) ∙ c .if1 .left)),
+)
+
+pub take-in-spec : {M : Type 1} → statement M
+take-in-spec =
+    tie.close
+    (tie.spec
+    mul-x
+    element-copy-out-x
+    stands-on-requires
+    overlaps-requires
+    cast-numbers
+    mul-numbers
+    slice-write-numbers
+    add-result
+    returns
+    returns-2
+    returns-3)

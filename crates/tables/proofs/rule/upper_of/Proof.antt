@@ -1,0 +1,21 @@
+-- `rule::upper_of` meets its contract. Assumes nothing.
+use Prim.Native.Nat.{_/_}
+use native.Mathlib.Omega.{arith}
+use borrow.Author.Needs.{needs}
+use Rattle.meaning.specs.Rule.{upper}
+use Rattle.meaning.proofs.Words.{shl, shl-le}
+use Rattle.tables.proofs.rule.upper_of.Statement.{statement}
+use Rattle.tables.proofs.rule.upper_of.Tie as tie
+
+shl-result : tie.Need-shl-result
+shl-result c = search needs
+
+add-result : tie.Need-add-result
+add-result c = omega (arith, shl-le (c .args .w / 274877906944))
+
+returns : tie.Need-returns
+unfolding upper
+returns c = (rw shl, omega (arith, shl-le (c .args .w / 274877906944)))
+
+pub upper-of-spec : {M : Type 1} → statement M
+upper-of-spec = tie.close (tie.spec shl-result add-result returns)

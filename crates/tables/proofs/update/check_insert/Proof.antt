@@ -1,0 +1,173 @@
+-- `update::check_insert` meets its contract. Assumes nothing.
+use mathlib.Core.Path.{sym, _∙_}
+use native.Mathlib.Omega.{arith}
+use borrow.Author.Needs.{needs}
+use Rattle.meaning.specs.Step.{checked}
+use Rattle.meaning.specs.Winner.{ruleAt}
+use Rattle.meaning.proofs.Checks.{number-high, number-live, link-unknown, length-high, prefix-ragged}
+use Rattle.tables.proofs.Rules.{insert-ties, insert-full, insert-passes}
+use Rattle.tables.proofs.update.check_insert.Statement.{statement}
+use Rattle.tables.proofs.update.check_insert.Tie as tie
+
+returns : tie.Need-returns
+unfolding checked
+returns c = λ number. sym (number-high _ _ _ _ _ _ (c .if1 .taken))
+
+mul-if2 : tie.Need-mul-if2
+mul-if2 c = search needs
+
+element-copy-out-if2 : tie.Need-element-copy-out-if2
+element-copy-out-if2 c = search needs
+
+returns-2 : tie.Need-returns-2
+unfolding checked ruleAt
+returns-2 c = λ number. sym (number-live _ _ _ _ _ _ (c .before .before .if1 .left) (c .if2 .taken))
+
+returns-3 : tie.Need-returns-3
+unfolding checked ruleAt
+returns-3 c =
+    let f = c .before .before .before in
+    λ number. sym (link-unknown _ _ _ _ _ _ (f .before .before .if1 .left) (f .if2 .left) (c .if3 .taken))
+
+returns-4 : tie.Need-returns-4
+unfolding checked ruleAt
+returns-4 c =
+    let l = c .before .before in
+    let f = l .before .before .before in
+    λ number. sym (length-high _ _ _ _ _ _ (f .before .before .if1 .left) (f .if2 .left) (l .if3 .left) (c .if4 .taken))
+
+is-ragged-requires : tie.Need-is-ragged-requires
+is-ragged-requires c κs = search needs
+
+returns-5 : tie.Need-returns-5
+unfolding checked ruleAt
+returns-5 c =
+    let n = c .before .before in
+    let l = n .before .before in
+    let f = l .before .before .before in
+    λ number. sym (prefix-ragged _ _ _ _ _ _ (f .before .before .if1 .left) (f .if2 .left) (l .if3 .left) (n .if4 .left) (sym (c .before .is-ragged .ensures) ∙ c .if5 .taken))
+
+pack-requires : tie.Need-pack-requires
+pack-requires c κs = search needs
+
+cast-source-of : tie.Need-cast-source-of
+cast-source-of c = search needs
+
+mul-source-of : tie.Need-mul-source-of
+mul-source-of c = search needs
+
+element-copy-out-source-of : tie.Need-element-copy-out-source-of
+element-copy-out-source-of c = search needs
+
+source-of-requires : tie.Need-source-of-requires
+source-of-requires c κs = search needs
+
+ties-requires : tie.Need-ties-requires
+ties-requires c κs = search needs
+
+returns-6 : tie.Need-returns-6
+unfolding checked ruleAt
+returns-6 c =
+    let s = c .before in
+    let k = s .before .before .before in
+    let g = k .before .before .before in
+    let n = g .before in
+    let l = n .before .before in
+    let f = l .before .before .before in
+    let d = f .before .before in
+    let sized = k .struct-known4 .given in
+    λ number.
+    insert-ties _ _ _ _ _ _ (d .before .pre .1) (omega (arith, sized)) (omega (arith, sized))
+    (d .if1 .left) (f .if2 .left) (l .if3 .left) (n .if4 .left) (sym (g .is-ragged .ensures) ∙ k .before .before .if5 .left)
+    _ _ _ (s .before .source-of .ensures .0) (k .before .pack .ensures) (s .ties .ensures)
+    (c .if6 .taken)
+
+cast-n : tie.Need-cast-n
+cast-n c = search needs
+
+lower-of-requires : tie.Need-lower-of-requires
+lower-of-requires c κs = search needs
+
+adds-requires : tie.Need-adds-requires
+adds-requires c κs = search needs
+
+upper-of-requires : tie.Need-upper-of-requires
+upper-of-requires c κs = search needs
+
+adds-requires-2 : tie.Need-adds-requires-2
+adds-requires-2 c κs = search needs
+
+add-more : tie.Need-add-more
+add-more c = search needs
+
+add-if7 : tie.Need-add-if7
+add-if7 c = search needs
+
+returns-7 : tie.Need-returns-7
+unfolding checked ruleAt
+returns-7 c =
+    let q = c .before in
+    let b = q .before .before in
+    let e = b .before .before .before in
+    let s = e .before in
+    let k = s .before .before .before in
+    let g = k .before .before .before in
+    let n = g .before in
+    let l = n .before .before in
+    let f = l .before .before .before in
+    let d = f .before .before in
+    let sized = k .struct-known4 .given in
+    λ number.
+    insert-full _ _ _ _ _ _ (d .before .pre .1) (omega (arith, sized)) (omega (arith, sized))
+    (d .if1 .left) (f .if2 .left) (l .if3 .left) (n .if4 .left) (sym (g .is-ragged .ensures) ∙ k .before .before .if5 .left)
+    _ _ _ (s .before .source-of .ensures .0) (k .before .pack .ensures) (s .ties .ensures)
+    (e .if6 .left) _ _ _ _ (b .before .lower-of .ensures .0) (q .before .upper-of .ensures .0) (b .adds .ensures .0) (q .adds2 .ensures .0) (c .if7 .taken)
+
+returns-8 : tie.Need-returns-8
+unfolding checked ruleAt
+returns-8 c =
+    let q = c .before in
+    let b = q .before .before in
+    let e = b .before .before .before in
+    let s = e .before in
+    let k = s .before .before .before in
+    let g = k .before .before .before in
+    let n = g .before in
+    let l = n .before .before in
+    let f = l .before .before .before in
+    let d = f .before .before in
+    let sized = k .struct-known4 .given in
+    λ number.
+    insert-passes _ _ _ _ _ _ (d .before .pre .1) (omega (arith, sized)) (omega (arith, sized))
+    (d .if1 .left) (f .if2 .left) (l .if3 .left) (n .if4 .left) (sym (g .is-ragged .ensures) ∙ k .before .before .if5 .left)
+    _ _ _ (s .before .source-of .ensures .0) (k .before .pack .ensures) (s .ties .ensures)
+    (e .if6 .left) _ _ _ _ (b .before .lower-of .ensures .0) (q .before .upper-of .ensures .0) (b .adds .ensures .0) (q .adds2 .ensures .0) (c .if7 .left)
+
+pub check-insert-spec : {M : Type 1} → statement M
+check-insert-spec =
+    tie.close
+    (tie.spec
+    returns
+    mul-if2
+    element-copy-out-if2
+    returns-2
+    returns-3
+    returns-4
+    is-ragged-requires
+    returns-5
+    pack-requires
+    cast-source-of
+    mul-source-of
+    element-copy-out-source-of
+    source-of-requires
+    ties-requires
+    returns-6
+    cast-n
+    lower-of-requires
+    adds-requires
+    upper-of-requires
+    adds-requires-2
+    add-more
+    add-if7
+    returns-7
+    returns-8)

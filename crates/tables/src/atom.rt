@@ -1,0 +1,127 @@
+// Atoms: the place of an address, the number of the atom there, and how a boundary is made.
+use meaning::Hall;
+ghost use mathlib.Core.Path.{_≡_};
+ghost use mathlib.Core.Bool.{false};
+ghost use Prim.Native.Nat.{ℕ, _+_, _≤_, _<_};
+ghost use lib.ListN.{length, getD};
+ghost use Rattle.meaning.specs.Hall.{top, State};
+ghost use Rattle.meaning.specs.Box.{AtomsHeld};
+ghost use Rattle.meaning.specs.Atoms.{placeOf, isCut, insertAt, withCut};
+ghost use Rattle.meaning.proofs.Tables.{Cuts, Numbers};
+ghost use Rattle.meaning.proofs.Owners.{Whole};
+ghost use Rattle.tables.specs.Rows.{Split, Given};
+
+// A place in address order, and the number of an atom: neither tells the other.
+pub struct Place(pub usize);
+
+pub struct Atom(pub u16);
+
+// The place of address a: the last whose lower end is at most a.
+pub fn place_of(cut: &[u64; 513], n: usize, a: u64) -> Place
+    requires { ⌜ Cuts top (now cut) n ⌝ }
+    ensures { λ r. ⌜ (r .0 ≡ placeOf (now (cut .entry)) n a) × (r .0 ≤ n) ⌝ }
+{
+    let mut low: usize = 0;
+    let mut high = n + 1;
+    while low + 1 < high {
+        let middle = low + (high - low) / 2;
+        if cut[middle] <= a {
+            low = middle;
+        } else {
+            high = middle;
+        }
+    }
+    Place(low)
+}
+
+// The number of the atom at a place.
+pub fn atom_at(number: &[u16; 512], p: Place) -> Atom
+    requires { ⌜ p .0 < 512 ⌝ }
+    ensures { λ r. ⌜ r .0 ≡ getD (now (number .entry)) (p .0) 0 ⌝ }
+{
+    let i = p.0;
+    Atom(number[i])
+}
+
+// The number of the atom that address a lies in.
+pub fn atom_of(h: Hall, cut: &[u64; 513], number: &[u16; 512], a: u32) -> Atom
+    requires { ⌜ AtomsHeld h (now cut) (now number) ⌝ }
+    ensures { λ r. ⌜ r .0 ≡ getD (now (number .entry)) (placeOf (now (cut .entry)) (h .atoms) a) 0 ⌝ }
+{
+    let p = place_of(cut, h.atoms as usize, a as u64);
+    atom_at(number, p)
+}
+
+// Of n + 1 boundaries, those from place p on move up one place, and b goes in.
+fn insert_cut(cut: &mut [u64; 513], n: usize, p: usize, b: u64)
+    requires { ⌜ Cuts top (now cut) n ⌝ }
+    requires { ⌜ (p ≤ n) × (n < 512) ⌝ }
+    ensures { λ r. ⌜ now (cut .exit) ≡ insertAt p b (now (cut .entry)) ⌝ }
+{
+    let mut carry = b;
+    let mut j = p;
+    while j < n + 2 {
+        let old = cut[j];
+        cut[j] = carry;
+        carry = old;
+        j += 1;
+    }
+}
+
+// Of n numbers, those from place p on move up one place, and k goes in.
+fn insert_number(number: &mut [u16; 512], n: usize, p: usize, k: u16)
+    requires { ⌜ Numbers (now number) n ⌝ }
+    requires { ⌜ (p ≤ n) × (n < 512) ⌝ }
+    ensures { λ r. ⌜ now (number .exit) ≡ insertAt p k (now (number .entry)) ⌝ }
+{
+    let mut carry = k;
+    let mut j = p;
+    while j < n + 1 {
+        let old = number[j];
+        number[j] = carry;
+        carry = old;
+        j += 1;
+    }
+}
+
+// Gives the atom new the owners of the atom old, and puts it on the links that they name.
+fn give(label: &mut [u64; 512], owner: &mut [u16; 8192], old: usize, new: usize)
+    requires { ⌜ (old < 512) × (new < 512) × (old ≡ new → ⊥) × (length (now owner) ≡ 8192) ⌝ }
+    ensures { λ r. ⌜ Given (now (label .entry)) (now (label .exit)) (now (owner .entry)) (now (owner .exit)) old new ⌝ }
+{
+    let mut v: usize = 0;
+    while v < 16 {
+        let e = owner[16 * old + v];
+        owner[16 * new + v] = e;
+        if e != 0 {
+            crate::label::put(label, (e / 512 % 64) as usize, new);
+        }
+        v += 1;
+    }
+}
+
+// Makes b a boundary: a split atom keeps its number for the lower part, and the upper part, with the number n, has the owners
+// and the links of the split atom. Returns how many atoms there are then.
+pub fn make_boundary(
+    cut: &mut [u64; 513],
+    number: &mut [u16; 512],
+    label: &mut [u64; 512],
+    owner: &mut [u16; 8192],
+    n: usize,
+    b: u64,
+) -> usize
+    requires { ⌜ (Cuts top (now cut) n) × (Numbers (now number) n) × (b ≤ top) × (isCut (now cut) n b ≡ false → n < 512) × (length (now owner) ≡ 8192) ⌝ }
+    ensures { λ r. ⌜ Split (now (cut .entry)) (now (number .entry)) n b (now (cut .exit)) (now (number .exit)) r ⌝ }
+    ensures { λ r. ⌜ ((m : State) → m .cut ≡ now (cut .entry) → m .number ≡ now (number .entry) → m .atoms ≡ n
+        → Whole m (now (label .entry)) (now (owner .entry)) → Whole (withCut m b) (now (label .exit)) (now (owner .exit))) ⌝ }
+{
+    let p = place_of(cut, n, b).0;
+    if cut[p] == b {
+        return n;
+    }
+    let old = number[p] as usize;
+    insert_cut(cut, n, p + 1, b);
+    insert_number(number, n, p + 1, n as u16);
+    give(label, owner, old, n);
+    n + 1
+}
