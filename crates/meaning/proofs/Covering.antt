@@ -1,17 +1,14 @@
 -- The atoms after any records: each address lies in exactly one, their numbers are those below the counter, the winners are constant on each,
 -- and an atom is on a link exactly when, for each of its addresses, the winner at the link's source names the link. Assumes nothing.
 use mathlib.Core.Path.{_≡_, refl, sym, ap, _∙_}
-use mathlib.Core.Logic.{_↔_, _⊎_, inl, inr, ⊎-elim}
+use mathlib.Core.Logic.{_↔_}
 use mathlib.Core.Bool.{Bool, true, false, true≢false}
 use mathlib.Core.Option.{Option, none, some}
 use Prim.Native.Nat.{ℕ, _+_, _≤_, _<_}
-use native.Mathlib.Nat.{eq-or-lt-of-le}
 use native.Mathlib.Numerals.{add-one}
 use native.Mathlib.Omega.{arith}
-use lib.Dec.{ltb}
 use lib.ListN.{getD}
-use borrow.Author.Tests.{eqb-true, eq-eqb, lt-ltb, le-ltb}
-use Rattle.meaning.specs.Search.{pick}
+use borrow.Author.Tests.{eqb-true, eq-eqb}
 use Rattle.meaning.specs.Hall.{top, State, sourceOf}
 use Rattle.meaning.specs.Winner.{winner, nextAt}
 use Rattle.meaning.specs.Atoms.{placeOf}
@@ -19,7 +16,7 @@ use Rattle.meaning.specs.Labels.{on, names, isOn, labelsOf}
 use Rattle.meaning.specs.Run.{Came}
 use Rattle.meaning.proofs.Tables.{Holds}
 use Rattle.meaning.proofs.Places.{place-holds, holds-place, cut-top}
-use Rattle.meaning.proofs.Pigeon.{pigeon}
+use Rattle.meaning.proofs.Numbered.{has-place}
 use Rattle.meaning.proofs.Constant.{same-winner, same-next}
 use Rattle.meaning.proofs.Members.{labels-on, any-some, and-both, one-place, on-place}
 use Rattle.meaning.proofs.Sound.{Sound}
@@ -43,7 +40,7 @@ module _ (m : State) (S : Sound m) where
 
   -- two addresses of one atom lie in one place
   pub places-agree : (k a b : ℕ) (x : InAtom m k a) (y : InAtom m k b) → y .place ≡ x .place
-  places-agree k a b x y = one-place m (S .numbers) 0 (x .place) (x .holds .within) (y .place) (y .holds .within) (y .number ∙ sym (x .number))
+  places-agree k a b x y = one-place (S .numbers) (y .place) (x .place) (y .holds .within) (x .holds .within) (y .number ∙ sym (x .number))
 
   -- the ways of an address are those of its place's lower end
   pub ways-from : (k a : ℕ) (x : InAtom m k a) → nextAt m a ≡ nextAt m (getD (m .cut) (x .place) 0)
@@ -58,30 +55,10 @@ module _ (m : State) (S : Sound m) where
       ap (isOn m l) (sym (x .number)) ∙ on-place m (S .numbers) l (x .place) (x .holds .within)
       ∙ ap (λ (f : ℕ → Option ℕ). names (f (sourceOf m l)) l) (sym (ways-from k a x))
 
-  -- each number below the counter has its place: as many numbers, apart, leave none out
-  pub place-of : (k : ℕ) → k < m .atoms → (p : ℕ) × (p < m .atoms) × (getD (m .number) p 0 ≡ k)
-  place-of k h = let t = pigeon n f small in go (t .i) (t .j) (t .less) (eq-or-lt-of-le (t .within)) (sym (below (t .i) (omega arith)) ∙ t .same)
-    where
-      n : ℕ
-      n = m .atoms
-
-      f : ℕ → ℕ
-      f i = pick (ltb i n) (getD (m .number) i 0) k
-
-      below : (i : ℕ) → i < n → f i ≡ getD (m .number) i 0
-      below i l = rw (lt-ltb i n l)
-
-      small : (i : ℕ) → i ≤ n → f i < n
-      small i l = ⊎-elim (λ (e : i ≡ n). rw (le-ltb i n (omega arith)) h) (λ (g : i < n). rw (lt-ltb i n g) (S .numbers .small i g)) (eq-or-lt-of-le l)
-
-      go : (i j : ℕ) → i < j → (j ≡ n) ⊎ (j < n) → getD (m .number) i 0 ≡ f j → (p : ℕ) × (p < n) × (getD (m .number) p 0 ≡ k)
-      go i j l (inl e) s = (i, omega arith, s ∙ rw (le-ltb j n (omega arith)))
-      go i j l (inr g) s = absurd (S .numbers .apart i j l g (s ∙ below j g))
-
   -- an atom has an address: the lower end of its place
   pub atom-has : (k : ℕ) → k < m .atoms → (a : ℕ) × InAtom m k a
   atom-has k h =
-      let r = place-of k h in
+      let r = has-place (S .numbers) k h in
       (getD (m .cut) (r .0) 0, record { place = r .0; holds = record { within = r .1; from = omega arith; below = S .cuts .up (r .0) (r .0 + 1) (omega arith) (omega (arith, r .1)) }; number = r .2 })
 
 -- ---- after any records
@@ -109,7 +86,7 @@ module _ (m : State) (c : Came m) where
   numbered k = (atom-has m (sound m c) k, λ x. let y = x .1 in omega (arith, y .number, sound m c .numbers .small (y .place) (y .holds .within)))
 
   pub one-number : (p q : ℕ) → p < m .atoms → q < m .atoms → getD (m .number) p 0 ≡ getD (m .number) q 0 → p ≡ q
-  one-number p q hp hq e = one-place m (sound m c .numbers) 0 q hq p hp e
+  one-number = one-place (sound m c .numbers)
 
   -- the winner at each node is the same for all addresses of an atom
   pub winner-constant : (v k a b : ℕ) → InAtom m k a → InAtom m k b → winner m v a ≡ winner m v b

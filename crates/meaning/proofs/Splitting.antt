@@ -21,7 +21,7 @@ use Rattle.meaning.proofs.Constant.{same-winner}
 use Rattle.meaning.proofs.Kept.{keeps-cut}
 use Rattle.meaning.proofs.Exchange.{winner-same}
 use Rattle.meaning.proofs.Owners.{ownerIn, via, Owned, Agrees, Whole}
-use Rattle.meaning.proofs.Below.{any-one}
+use Rattle.meaning.proofs.Members.{any-one}
 use Rattle.meaning.proofs.Labelled as labelled
 
 -- an owner at a node other than a link's source does not name the link
