@@ -2,7 +2,7 @@
 -- m to n, a remove from n to m. With r, the winner is the better of the winner without it and r. Assumes nothing.
 use mathlib.Core.Path.{_≡_, refl, sym, ap, ap₂, _∙_, subst⁻¹}
 use mathlib.Core.Logic.{_⊎_, inl, inr, ⊎-elim}
-use mathlib.Core.Bool.{Bool, true, false, not, true≢false}
+use mathlib.Core.Bool.{Bool, true, false, true≢false}
 use mathlib.Core.List.{List, [], _∷_, _++_, append-assoc, append-nil}
 use mathlib.Core.Option.{none, some}
 use Prim.Native.Nat.{ℕ, zero, suc, _+_, _*_, _/_, _≤_, _<_}
@@ -10,7 +10,7 @@ use native.Mathlib.Decide.{ℕ-discrete}
 use native.Mathlib.Omega.{arith}
 use lib.Dec.{leb, ltb}
 use lib.ListN.{length, getD}
-use borrow.Author.Tests.{ltb-true, ltb-false, leb-true, eqb-true, not-false}
+use borrow.Author.Tests.{ltb-true, ltb-false, leb-true, eqb-true}
 use Rattle.meaning.specs.Search.{pick}
 use Rattle.meaning.specs.Hall.{top, State, sourceOf}
 use Rattle.meaning.specs.Rule.{ruleWord, live, linkOf, rank, lower, upper, covers}
@@ -24,12 +24,12 @@ use Rattle.meaning.specs.Step.{refusal, withRule, inserted, leaves, node
 use Rattle.meaning.proofs.Words.{link-of, live-of, Sized, Fits}
 use Rattle.meaning.proofs.Tables.{Cuts, Boundary}
 use Rattle.meaning.proofs.Members.{and-both}
-use Rattle.meaning.proofs.Sound.{Sound, when-none}
+use Rattle.meaning.proofs.Sound.{Sound}
 use Rattle.meaning.proofs.Ranks.{Wins, wins-once, keep-out, take-first, take-higher, keep-lower}
 use Rattle.meaning.proofs.Means.{fit, wins}
 use Rattle.meaning.proofs.Places.{le-or-lt, place-le, place-max, cut-le}
 use Rattle.meaning.proofs.Parted.{boundary-is}
-use Rattle.meaning.proofs.Kept.{rule-new, rule-old, Clear, clear, keeps}
+use Rattle.meaning.proofs.Kept.{Clear, clear, ClearRemove, clear-remove, rule-new, rule-old, keeps}
 use Rattle.meaning.proofs.Exchange.{winner-same, next-same}
 use Rattle.meaning.proofs.Owners.{via}
 use Rattle.meaning.proofs.Labelled.{link-small, via-word, via-won, won-at}
@@ -176,22 +176,21 @@ owner-source m S v a n = let o = won-at m S v a n in ap (sourceOf m) (via-won m 
 -- ---- an accepted remove and an accepted insert
 
 module _ (m : State) (r : ℕ) (S : Sound m) (ph : m .phase ≡ 2) (ok : refusal m (remove r) ≡ none) where
-  live-there : (r < 256) × (live (ruleAt m r) ≡ true)
-  unfolding refusal
-  live-there = let a = when-none _ _ _ ok in (omega (arith, ltb-false 255 r (a .0)), not-false _ (when-none _ _ _ (a .1) .0))
+  live-there : ClearRemove m r
+  live-there = clear-remove m r ok
 
   pub goes : (v : ℕ) → v ≡ nodeOf m (remove r) → Joined (withRule m r 0) m r (ruleAt m r) v
   unfolding nodeOf
   goes v e = record {
     less = unfold leaves phaseOf Fits in keeps m (remove r) S tt ph ok;
     more = S;
-    slot = live-there .0;
+    slot = live-there .number;
     links = unfold withRule in refl;
-    free = ap live (rule-new m r 0 (S .rules) (live-there .0)) ∙ (unfold live in refl);
+    free = ap live (rule-new m r 0 (S .rules) (live-there .number)) ∙ (unfold live in refl);
     word = refl;
-    alive = live-there .1;
+    alive = live-there .alive;
     node = sym e;
-    others = λ i d. sym (rule-old m r 0 (S .rules) (live-there .0) i d);
+    others = λ i d. sym (rule-old m r 0 (S .rules) (live-there .number) i d);
   }
 
 -- an insert goes by way of the state whose boundaries are made

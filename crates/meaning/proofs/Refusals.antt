@@ -8,7 +8,7 @@ use Prim.Native.Nat.{ℕ, _+_, _-_, _%_, _^_, _≤_, _<_}
 use native.Mathlib.Omega.{arith}
 use lib.Dec.{leb, ltb, eqb}
 use lib.ListN.{getD}
-use borrow.Author.Tests.{ltb-true, ltb-false, leb-true, leb-false, eqb-true, eqb-false, eq-eqb, ne-eqb, not-true, not-false, le-leb}
+use borrow.Author.Tests.{ltb-true, ltb-false, leb-true, leb-false, eqb-true, eqb-false, eq-eqb, not-true}
 use Rattle.meaning.specs.declared.Record.{Record}
 use Rattle.meaning.specs.declared.Record.the-variants.{Hall as hall, Link as link, Close as close, Insert as insert, Remove as remove, Loop as loop, Fate as fate, Reach as reach, Tally as tally}
 use Rattle.meaning.specs.Hall.{State, sourceOf}
@@ -18,7 +18,7 @@ use Rattle.meaning.specs.Step.{when, ragged, clashes, added, refusal}
 use Rattle.meaning.specs.Run.{Came}
 use Rattle.meaning.proofs.Members.{any-true, any-some, and-both}
 use Rattle.meaning.proofs.Sound.{when-none, or-false}
-use Rattle.meaning.proofs.Kept.{clear, sound}
+use Rattle.meaning.proofs.Kept.{clear-link, clear, clear-remove, sound}
 use Rattle.meaning.proofs.Winners.{overlap-is}
 
 -- live rule i stands at the node of the rule with the word w, has its priority, and covers an address that it covers
@@ -117,24 +117,20 @@ module _ (m : State) where
   no-reason h r k ok (no-node-count n x) =
       let a = or-false (eqb n 0) (ltb 16 n) (when-none _ _ _ ok .0) in
       ⊎-elim (λ e. eqb-false n 0 (a .0) e) (λ g. omega (arith, ltb-false 16 n (a .1))) x
-  no-reason h r k ok (no-source s c e x) = omega (arith, leb-false (m .nodes) s (when-none _ _ _ (when-none _ _ _ ok .1) .0))
-  no-reason h r k ok (no-end-node s c e x y) =
-      let f = when-none _ _ _ (when-none _ _ _ (when-none _ _ _ (when-none _ _ _ ok .1) .1) .1) .0 in
-      true≢false (sym (rw (eq-eqb c 0 x, le-leb (m .nodes) e y) refl) ∙ f)
+  no-reason h r k ok (no-source s c e x) = omega (arith, clear-link m s c e ok .source)
+  no-reason h r k ok (no-end-node s c e x y) = omega (arith, clear-link m s c e ok .node x)
   no-reason h r k ok (fate-node v a x) = omega (arith, leb-false (m .nodes) v (when-none _ _ _ ok .0))
   no-reason h r k ok (reach-node v w x) =
       let a = when-none _ _ _ ok in
       ⊎-elim (λ g. omega (arith, leb-false (m .nodes) v (a .0))) (λ g. omega (arith, leb-false (m .nodes) w (when-none _ _ _ (a .1) .0))) x
   no-reason h r k ok (tally-node v x) = omega (arith, leb-false (m .nodes) v (when-none _ _ _ ok .0))
   no-reason h r k ok (no-link i l p n t x) = omega (arith, clear m i l p n t ok .declared)
-  no-reason h r k ok (many-links s c e x) = omega (arith, leb-false 64 (m .links) (when-none _ _ _ ok .0))
-  no-reason h r k ok (no-end s c e x) =
-      let f = or-false (ltb 2 c) (eqb c 2 && not (eqb e 0)) (when-none _ _ _ (when-none _ _ _ (when-none _ _ _ ok .1) .1) .0) in
-      ⊎-elim (λ g. omega (arith, ltb-false 2 c (f .0))) (λ g. true≢false (sym (rw (eq-eqb c 2 (g .0), ne-eqb e 0 (g .1)) refl) ∙ f .1)) x
+  no-reason h r k ok (many-links s c e x) = omega (arith, clear-link m s c e ok .room)
+  no-reason h r k ok (no-end s c e x) = let a = clear-link m s c e ok in ⊎-elim (λ g. omega (arith, a .code)) (λ g. g .1 (a .drop (g .0))) x
   no-reason h r k ok (insert-number i l p n t x) = omega (arith, clear m i l p n t ok .number)
-  no-reason h r k ok (remove-number i x) = omega (arith, ltb-false 255 i (when-none _ _ _ ok .0))
+  no-reason h r k ok (remove-number i x) = omega (arith, clear-remove m i ok .number)
   no-reason h r k ok (is-live i l p n t x) = true≢false (sym x ∙ clear m i l p n t ok .free)
-  no-reason h r k ok (not-live i x) = true≢false (sym (not-false _ (when-none _ _ _ (when-none _ _ _ ok .1) .0)) ∙ x)
+  no-reason h r k ok (not-live i x) = true≢false (sym (clear-remove m i ok .alive) ∙ x)
   no-reason h r k ok (no-prefix i l p n t x) = let a = clear m i l p n t ok in ⊎-elim (λ g. omega (arith, a .long)) (λ g. g (a .flush)) x
   no-reason h r k ok (tied i l p n t j x) = true≢false (sym (tie-found (ruleWord l p n t) j x) ∙ clear m i l p n t ok .alone)
   no-reason h r k ok (full i l p n t x) =

@@ -9,7 +9,7 @@ use native.Mathlib.Omega.{arith}
 use lib.Pow.{pow-pos}
 use lib.Dec.{leb, ltb}
 use lib.ListN.{length}
-use borrow.Author.Tests.{ltb-true, ltb-false, leb-true, eqb-true, eq-eqb, lt-ltb, le-leb}
+use borrow.Author.Tests.{ltb-true, leb-true, eqb-true, eq-eqb, lt-ltb, le-leb}
 use Rattle.meaning.specs.declared.Record.the-variants.{Insert as insert, Remove as remove}
 use Rattle.meaning.specs.Hall.{State, sourceOf}
 use Rattle.meaning.specs.Rule.{ruleWord, live, linkOf, lengthOf, rank, lower, upper, covers, overlap}
@@ -21,8 +21,8 @@ use Rattle.meaning.proofs.Places.{le-or-lt}
 use Rattle.meaning.proofs.Members.{and-both}
 use Rattle.meaning.proofs.Words.{Sized, link-of, rank-of, lower-of, upper-of, length-of, live-of}
 use Rattle.meaning.proofs.Ranks.{Wins, wins-once}
-use Rattle.meaning.proofs.Sound.{Sound, when-none}
-use Rattle.meaning.proofs.Kept.{Clear, clear, rule-new, rule-old, sound}
+use Rattle.meaning.proofs.Sound.{Sound}
+use Rattle.meaning.proofs.Kept.{Clear, clear, clear-remove, rule-new, rule-old, sound}
 use Rattle.meaning.proofs.Means.{wins}
 
 -- ---- the winner
@@ -177,8 +177,7 @@ module _ (m : State) (c : Came m) (r l p n t : ℕ) (F : Sized l p t) (ok : refu
 -- an accepted remove takes its rule out, and every other rule stays
 module _ (m : State) (c : Came m) (r : ℕ) (ok : refusal m (remove r) ≡ none) where
   small : r < 256
-  unfolding refusal
-  small = omega (arith, ltb-false 255 r (when-none _ _ _ ok .0))
+  small = clear-remove m r ok .number
 
   pub remove-frees : live (ruleAt (leaves m (remove r)) r) ≡ false
   unfolding leaves live
