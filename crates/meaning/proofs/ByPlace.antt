@@ -20,7 +20,7 @@ use Rattle.meaning.specs.Winner.{nextAt}
 use Rattle.meaning.specs.Walk.{onCircle, comesTo, fateIn}
 use Rattle.meaning.specs.Questions.{leastPlace, countPlace, fateOf, loopsAt, circleAt, someNode, loopFrom, reachesAt, reachFrom, isOut, isLost, isRound, asked, byAddress, byPlace}
 use Rattle.meaning.proofs.Tables.{Cuts, Holds}
-use Rattle.meaning.proofs.Places.{cut-top}
+use Rattle.meaning.proofs.Places.{cut-top, lower-holds}
 use Rattle.meaning.proofs.Constant.{by-place}
 use Rattle.meaning.proofs.Members.{any-true}
 use Rattle.meaning.proofs.Searches.{lowest-off, lowest-first}
@@ -107,7 +107,7 @@ module _ (m : State) (label owner : List ℕ) (W : Whole m label owner) where
 
   -- the lower end of a place lies in it
   pub lower-end : (p : ℕ) → p < m .atoms → Holds (m .cut) (m .atoms) (getD (m .cut) p 0) p
-  lower-end p h = record { within = h; from = omega arith; below = W .sound .cuts .up p (p + 1) (omega arith) (omega arith) }
+  lower-end = lower-holds (W .sound .cuts)
 
   links-are : (p : ℕ) → p < m .atoms → linksAt (m .number) owner p ≡ nextAt m (getD (m .cut) p 0)
   links-are p h = next-is m label owner W (getD (m .cut) p 0) p (lower-end p h)

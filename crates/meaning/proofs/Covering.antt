@@ -2,7 +2,7 @@
 -- and an atom is on a link exactly when, for each of its addresses, the winner at the link's source names the link. Assumes nothing.
 use mathlib.Core.Path.{_≡_, refl, sym, ap, _∙_}
 use mathlib.Core.Logic.{_↔_}
-use mathlib.Core.Bool.{Bool, true, false, true≢false}
+use mathlib.Core.Bool.{true, false, true≢false}
 use mathlib.Core.Option.{Option, none, some}
 use Prim.Native.Nat.{ℕ, _+_, _≤_, _<_}
 use native.Mathlib.Numerals.{add-one}
@@ -15,10 +15,10 @@ use Rattle.meaning.specs.Atoms.{placeOf}
 use Rattle.meaning.specs.Labels.{on, names, isOn, labelsOf}
 use Rattle.meaning.specs.Run.{Came}
 use Rattle.meaning.proofs.Tables.{Holds}
-use Rattle.meaning.proofs.Places.{place-holds, holds-place, cut-top}
-use Rattle.meaning.proofs.Numbered.{has-place}
+use Rattle.meaning.proofs.Places.{place-holds, holds-place, lower-holds, cut-top}
+use Rattle.meaning.proofs.Numbered.{has-place, on-without}
 use Rattle.meaning.proofs.Constant.{same-winner, same-next}
-use Rattle.meaning.proofs.Members.{labels-on, any-some, and-both, one-place, on-place}
+use Rattle.meaning.proofs.Members.{labels-on, one-place, on-place}
 use Rattle.meaning.proofs.Sound.{Sound}
 use Rattle.meaning.proofs.Kept.{sound}
 
@@ -46,8 +46,9 @@ module _ (m : State) (S : Sound m) where
   pub ways-from : (k a : ℕ) (x : InAtom m k a) → nextAt m a ≡ nextAt m (getD (m .cut) (x .place) 0)
   ways-from k a x = same-next m (S .cuts) (S .aligned) (x .place) a (x .holds .within) (x .holds .from) (rw add-one at (x .holds .below))
 
-  pub winners-from : (v k a : ℕ) (x : InAtom m k a) → winner m v a ≡ winner m v (getD (m .cut) (x .place) 0)
-  winners-from v k a x = same-winner m (S .cuts) (S .aligned) (x .place) a (x .holds .within) (x .holds .from) (rw add-one at (x .holds .below)) v
+  -- and the winners there are its winners
+  pub constant-in : (v p a : ℕ) → Holds (m .cut) (m .atoms) a p → winner m v a ≡ winner m v (getD (m .cut) p 0)
+  constant-in v p a h = same-winner m (S .cuts) (S .aligned) p a (h .within) (h .from) (rw add-one at (h .below)) v
 
   -- the atom of an address is on a link just where the link is named for that address
   pub on-each : (l k a : ℕ) → InAtom m k a → isOn m l k ≡ names (nextAt m a (sourceOf m l)) l
@@ -59,7 +60,7 @@ module _ (m : State) (S : Sound m) where
   pub atom-has : (k : ℕ) → k < m .atoms → (a : ℕ) × InAtom m k a
   atom-has k h =
       let r = has-place (S .numbers) k h in
-      (getD (m .cut) (r .0) 0, record { place = r .0; holds = record { within = r .1; from = omega arith; below = S .cuts .up (r .0) (r .0 + 1) (omega arith) (omega (arith, r .1)) }; number = r .2 })
+      (getD (m .cut) (r .0) 0, record { place = r .0; holds = lower-holds (S .cuts) (r .0) (r .1); number = r .2 })
 
 -- ---- after any records
 
@@ -92,7 +93,7 @@ module _ (m : State) (c : Came m) where
   pub winner-constant : (v k a b : ℕ) → InAtom m k a → InAtom m k b → winner m v a ≡ winner m v b
   winner-constant v k a b x y =
       let S = sound m c in
-      winners-from m S v k a x ∙ ap (λ (p : ℕ). winner m v (getD (m .cut) p 0)) (sym (places-agree m S k a b x y)) ∙ sym (winners-from m S v k b y)
+      constant-in m S v (x .place) a (x .holds) ∙ ap (λ (p : ℕ). winner m v (getD (m .cut) p 0)) (sym (places-agree m S k a b x y)) ∙ sym (constant-in m S v (y .place) b (y .holds))
 
   -- THE LAW OF LABELS: atom k is on link l exactly when for each of its addresses the winner at l's source names l
   pub on-link : (l k : ℕ) → k < m .atoms → (isOn m l k ≡ true) ↔ ((a : ℕ) → InAtom m k a → nextAt m a (sourceOf m l) ≡ some l)
@@ -111,15 +112,7 @@ module _ (m : State) (c : Came m) where
 
   -- what is no atom is on no link
   pub no-atom : (l k : ℕ) → m .atoms ≤ k → isOn m l k ≡ false
-  unfolding isOn
-  no-atom l k h = go _ refl
-    where
-      go : (t : Bool) → isOn m l k ≡ t → t ≡ false
-      go false e = refl
-      go true e =
-          let r = any-some _ (m .atoms) e in
-          let q : getD (m .number) (r .0) 0 ≡ k = eqb-true _ _ (and-both _ _ (r .2) .0) in
-          absurd (omega (arith, q, sound m c .numbers .small (r .0) (r .1)))
+  no-atom = on-without m (sound m c .numbers)
 
   -- the same of the labels' words: bit k of link l's eight words
   pub on-words : (l k : ℕ) → l < 64 → k < m .atoms → (on (labelsOf m) l k ≡ true) ↔ ((a : ℕ) → InAtom m k a → nextAt m a (sourceOf m l) ≡ some l)

@@ -16,7 +16,7 @@ use Rattle.meaning.specs.Rule.{lower, upper}
 use Rattle.meaning.specs.Atoms.{isCut}
 use Rattle.meaning.specs.Step.{added}
 use Rattle.meaning.proofs.Tables.{Cuts}
-use Rattle.meaning.proofs.Places.{le-or-lt, Order, less, same, more, order, cut-le}
+use Rattle.meaning.proofs.Places.{le-or-lt, Order, less, same, more, order, beside}
 use Rattle.meaning.proofs.Parted.{is-boundary, boundary-is}
 use Rattle.meaning.proofs.Below.{count-same, count-front}
 use Rattle.meaning.proofs.Demands.{innerWith}
@@ -63,9 +63,7 @@ module _ {top : ℕ} {cut : List ℕ} {n : ℕ} (W : Cuts top cut n) where
       go : (t : Bool) → isCut cut n b ≡ t → t ≡ false
       go false e = refl
       go true e =
-          let x = is-boundary cut n b e in
-          ⊎-elim (λ (l : x .place ≤ p). absurd (omega (arith, x .is, cut-le W (x .place) p l (omega arith))))
-          (λ (l : p < x .place). absurd (omega (arith, x .is, cut-le W (suc p) (x .place) l (x .within)))) (le-or-lt (x .place) p)
+          ⊎-elim (λ (l : b ≤ getD cut p 0). absurd (omega arith)) (λ (l : b < b). absurd (omega arith)) (beside W p b b h k (is-boundary cut n b e))
 
   is-one : (p : ℕ) → p ≤ n → isCut cut n (getD cut p 0) ≡ true
   is-one p h = boundary-is W (getD cut p 0) (record { place = p; within = h; is = refl })

@@ -1,27 +1,25 @@
 -- What the definitions mean, of a sound state: the winner, the walk's end, the circle, the way to a node. Assumes nothing.
-use mathlib.Core.Path.{_≡_, refl, sym, ap, ap₂, _∙_, subst}
-use mathlib.Core.Logic.{_↔_, _⊎_, inl, inr, ⊎-elim}
-use mathlib.Core.Bool.{Bool, true, false, not, _&&_, _||_, true≢false}
+use mathlib.Core.Path.{_≡_, refl, sym, ap, ap₂, _∙_}
+use mathlib.Core.Logic.{_↔_, _⊎_, inl, inr}
+use mathlib.Core.Bool.{Bool, true, false, _&&_, true≢false}
 use mathlib.Core.Option.{Option, none, some}
-use Prim.Native.Nat.{ℕ, zero, suc, _+_, _-_, _≤_, _<_}
-use native.Mathlib.Nat.{not-suc-le-zero}
-use native.Mathlib.Decide.{ℕ-discrete}
+use Prim.Native.Nat.{ℕ, zero, suc, _+_, _-_, _<_}
 use native.Mathlib.Omega.{arith}
-use lib.Dec.{leb, ltb, eqb}
-use lib.ListN.{getD}
-use borrow.Author.Tests.{ltb-true, ltb-false, leb-true, eqb-true, eq-eqb, lt-ltb}
+use lib.Dec.{leb, ltb}
+use borrow.Author.Tests.{ltb-true, leb-true, eqb-true, eq-eqb, lt-ltb}
 use Rattle.meaning.specs.declared.Fate.{Fate}
-use Rattle.meaning.specs.Search.{pick, orElse, anyBelow, lowestBelow, countBelow}
-use Rattle.meaning.specs.Hall.{top, State, sourceOf, endOf}
+use Rattle.meaning.specs.Search.{pick, anyBelow, countBelow}
+use Rattle.meaning.specs.Hall.{State, sourceOf, endOf}
 use Rattle.meaning.specs.Rule.{live, linkOf, rank, lower, upper, covers, overlap}
-use Rattle.meaning.specs.Winner.{better, best, ruleAt, eligible, winner, linkFor, nextAt}
-use Rattle.meaning.specs.Walk.{Place, at, out, lost, arrive, leave, move, after, stands, standsAt, goesRound, onCircle, comesTo, fateIn}
-use Rattle.meaning.specs.Questions.{fateOf, loopsAt, circleAt, reachesAt, isOut, isLost, isRound}
-use Rattle.meaning.proofs.Ranks.{Wins, Distinct, winner-law, wins-once}
+use Rattle.meaning.specs.Winner.{ruleAt, eligible, winner, linkFor, nextAt}
+use Rattle.meaning.specs.Walk.{Place, at, out, lost, arrive, leave, move, after, stands, standsAt, goesRound, onCircle}
+use Rattle.meaning.specs.Questions.{fateOf, loopsAt, circleAt, isOut, isLost, isRound}
+use Rattle.meaning.proofs.Ranks.{Wins, Distinct, winner-law}
 use Rattle.meaning.proofs.Members.{any-true, any-some, and-both}
-use Rattle.meaning.proofs.Walks.{Going, Never, Closed, Reaches, OnCircle, IsFate, never, fate-is, one-fate, meets, below}
-use Rattle.meaning.proofs.Circles.{never-circle, circle-short, circle-never}
+use Rattle.meaning.proofs.Walks.{Going, Never, Closed, OnCircle, IsFate, never, fate-is}
+use Rattle.meaning.proofs.Circles.{never-circle, circle-short}
 use Rattle.meaning.proofs.Sound.{Sound}
+use Rattle.meaning.proofs.Searches.{lowest-none}
 
 -- ---- the winner
 
@@ -123,18 +121,6 @@ module _ (next : ℕ → Option ℕ) (end : ℕ → ℕ) (n : ℕ) (closed : Clo
           let s : suc (q .0 - 1) ≡ q .0 = omega (arith, q .1) in
           any-true P n (q .0 - 1) (omega (arith, q .1, q .2)) (at-stands v _ (ap (λ (k : ℕ). after next end k (at v)) s ∙ q .3))
 
--- the lowest below n
-lowest-some : (P : ℕ → Bool) (n i : ℕ) → i < n → P i ≡ true → lowestBelow n P ≡ none → ⊥
-unfolding lowestBelow
-lowest-some P zero i l e f = not-suc-le-zero l
-lowest-some P (suc n) i l e f = go (lowestBelow n P) refl (P n) refl f (λ k. lowest-some P n i k e) (ℕ-discrete i n)
-  where
-    go : (o : Option ℕ) → lowestBelow n P ≡ o → (t : Bool) → P n ≡ t → orElse o (pick t (some n) none) ≡ none → (i < n → lowestBelow n P ≡ none → ⊥) → Dec (i ≡ n) → ⊥
-    go (some x) p t q f ih d = let z : _≡_ {A = ℕ} 0 1 = cc in omega arith
-    go none p true q f ih d = let z : _≡_ {A = ℕ} 0 1 = cc in omega arith
-    go none p false q f ih (yes d) = true≢false (sym e ∙ ap P d ∙ q)
-    go none p false q f ih (no d) = ih (omega arith) p
-
 module _ (m : State) (S : Sound m) (a : ℕ) where
   -- where some node's walk goes round, a node lies on a circle: the answer to a found loop always names a node
   pub loop-circle : loopsAt m a ≡ true → circleAt m a ≡ none → ⊥
@@ -144,8 +130,8 @@ module _ (m : State) (S : Sound m) (a : ℕ) where
       let c = closed-in m S a in
       let g = round-is (nextAt m a) (endOf m) (m .nodes) c (r .0) (r .1) .0 (r .2) in
       let q = never-circle (nextAt m a) (endOf m) (m .nodes) c (r .0) (r .1) g in
-      lowest-some (onCircle (nextAt m a) (endOf m) (m .nodes)) (m .nodes) (q .0) (q .1)
-      (circle-is (nextAt m a) (endOf m) (m .nodes) c (q .0) (q .1) .1 (q .3)) f
+      lowest-none (onCircle (nextAt m a) (endOf m) (m .nodes)) (m .nodes) .0 f (q .0) (q .1)
+      (circle-is (nextAt m a) (endOf m) (m .nodes) c (q .0) (q .1) .1 (q .3))
 
   -- the fate is the fate
   pub fate-of : (v : ℕ) → v < m .nodes → IsFate (nextAt m a) (endOf m) v (fateOf m v a)

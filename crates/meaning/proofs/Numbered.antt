@@ -1,5 +1,6 @@
 -- The atoms' numbers are 0 .. n - 1, each at one place: every number has its place, and the search for it finds that. Assumes nothing.
-use mathlib.Core.Path.{_≡_, refl, sym, _∙_}
+use mathlib.Core.Path.{_≡_, refl, sym, ap, _∙_}
+use mathlib.Core.Bool.{Bool, false, _&&_}
 use mathlib.Core.Logic.{_⊎_, inl, inr, ⊎-elim}
 use mathlib.Core.List.{List}
 use mathlib.Core.Option.{none, some}
@@ -10,10 +11,12 @@ use lib.Dec.{ltb}
 use lib.ListN.{getD}
 use borrow.Author.Tests.{lt-ltb, le-ltb, eq-eqb, ne-eqb}
 use Rattle.meaning.specs.Search.{pick}
-use Rattle.meaning.specs.Hall.{State}
-use Rattle.meaning.specs.Labels.{placeWith}
+use Rattle.meaning.specs.Hall.{State, sourceOf}
+use Rattle.meaning.specs.Winner.{nextAt}
+use Rattle.meaning.specs.Labels.{names, isOn, placeWith}
 use Rattle.meaning.proofs.Tables.{Numbers}
 use Rattle.meaning.proofs.Pigeon.{pigeon}
+use Rattle.meaning.proofs.Idle.{any-off}
 use Rattle.meaning.proofs.Searches.{lowest-off, lowest-first}
 
 -- the numbers of n places, and then k: of these n + 1 numbers below n two are equal, and only k can be the second
@@ -50,3 +53,9 @@ module _ (m : State) (N : Numbers (m .number) (m .atoms)) where
   pub place-without : (k : ℕ) → m .atoms ≤ k → placeWith m k ≡ none
   unfolding placeWith
   place-without k h = lowest-off _ (m .atoms) (λ i l. ne-eqb (getD (m .number) i 0) k (λ e. omega (arith, N .small i l)))
+
+  -- and it is on no link
+  pub on-without : (l k : ℕ) → m .atoms ≤ k → isOn m l k ≡ false
+  unfolding isOn
+  on-without l k h = any-off _ (m .atoms) (λ p g.
+      ap (λ (t : Bool). t && names (nextAt m (getD (m .cut) p 0) (sourceOf m l)) l) (ne-eqb (getD (m .number) p 0) k (λ e. omega (arith, N .small p g))))
