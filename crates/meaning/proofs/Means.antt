@@ -23,15 +23,16 @@ use Rattle.meaning.proofs.Searches.{lowest-none}
 
 -- ---- the winner
 
-module _ (m : State) (S : Sound m) (v a : ℕ) where
-  both-cover : (x y : ℕ) → covers x a ≡ true → covers y a ≡ true → overlap x y ≡ true
-  unfolding covers overlap
-  both-cover x y p q =
-      let b = and-both (leb (lower x) a) (ltb a (upper x)) p in
-      let c = and-both (leb (lower y) a) (ltb a (upper y)) q in
-      ap₂ _&&_ (lt-ltb (lower x) (upper y) (omega (arith, leb-true (lower x) a (b .0), ltb-true a (upper y) (c .1))))
-      (lt-ltb (lower y) (upper x) (omega (arith, leb-true (lower y) a (c .0), ltb-true a (upper x) (b .1))))
+-- rules that cover one address overlap
+pub both-cover : (x y a : ℕ) → covers x a ≡ true → covers y a ≡ true → overlap x y ≡ true
+unfolding covers overlap
+both-cover x y a p q =
+    let b = and-both (leb (lower x) a) (ltb a (upper x)) p in
+    let c = and-both (leb (lower y) a) (ltb a (upper y)) q in
+    ap₂ _&&_ (lt-ltb (lower x) (upper y) (omega (arith, leb-true (lower x) a (b .0), ltb-true a (upper y) (c .1))))
+    (lt-ltb (lower y) (upper x) (omega (arith, leb-true (lower y) a (c .0), ltb-true a (upper x) (b .1))))
 
+module _ (m : State) (S : Sound m) (v a : ℕ) where
   pub record Fit (i : ℕ) : Type 0 where
     pub alive : live (ruleAt m i) ≡ true
     pub here : sourceOf m (linkOf (ruleAt m i)) ≡ v
@@ -45,7 +46,7 @@ module _ (m : State) (S : Sound m) (v a : ℕ) where
   ranks i j hi hj p q e =
       let x = fit i p in
       let y = fit j q in
-      S .distinct i j hi hj (x .alive) (y .alive) (x .here ∙ sym (y .here)) e (both-cover _ _ (x .over) (y .over))
+      S .distinct i j hi hj (x .alive) (y .alive) (x .here ∙ sym (y .here)) e (both-cover _ _ a (x .over) (y .over))
 
   -- THE LAW: no rule is eligible, or the winner is the one eligible rule that outranks every other
   pub wins : ((winner m v a ≡ 256) × ((i : ℕ) → i < 256 → eligible m v a i ≡ true → ⊥)) ⊎ Wins (eligible m v a) (λ i. rank (ruleAt m i)) 256 (winner m v a)

@@ -8,9 +8,9 @@ use mathlib.Core.Option.{none, some}
 use Prim.Native.Nat.{ℕ, zero, suc, _+_, _*_, _/_, _≤_, _<_}
 use native.Mathlib.Decide.{ℕ-discrete}
 use native.Mathlib.Omega.{arith}
-use lib.Dec.{leb, ltb}
+use lib.Dec.{ltb}
 use lib.ListN.{length, getD}
-use borrow.Author.Tests.{ltb-true, ltb-false, leb-true, eqb-true}
+use borrow.Author.Tests.{ltb-true, ltb-false, eqb-true}
 use Rattle.meaning.specs.Search.{pick}
 use Rattle.meaning.specs.Hall.{top, State, sourceOf}
 use Rattle.meaning.specs.Rule.{ruleWord, live, linkOf, rank, lower, upper, covers}
@@ -23,10 +23,10 @@ use Rattle.meaning.specs.Records.{phaseOf}
 use Rattle.meaning.specs.Step.{refusal, withRule, inserted, leaves, nodeOf}
 use Rattle.meaning.proofs.Words.{link-of, live-of, Sized, Fits}
 use Rattle.meaning.proofs.Tables.{Cuts, Boundary}
-use Rattle.meaning.proofs.Members.{and-both}
 use Rattle.meaning.proofs.Sound.{Sound}
 use Rattle.meaning.proofs.Ranks.{Wins, wins-once, keep-out, take-first, take-higher, keep-lower}
 use Rattle.meaning.proofs.Means.{fit, wins}
+use Rattle.meaning.proofs.Winners.{covers-is}
 use Rattle.meaning.proofs.Places.{le-or-lt, place-le, place-max, cut-le}
 use Rattle.meaning.proofs.Parted.{boundary-is}
 use Rattle.meaning.proofs.Kept.{Clear, clear, ClearRemove, clear-remove, rule-new, rule-old, keeps}
@@ -246,13 +246,10 @@ module _ {cut : List ℕ} {k z f t : ℕ} (C : Cuts top cut k) where
         (omega (arith, P .from, P .within, cut-le C f q a (omega (arith, P .within))), omega (arith, P .to, C .up q t b (P .within)))
 
     pub of-span : q < k → covers z (getD cut q 0) ≡ true → (f ≤ q) × (q < t)
-    unfolding covers
     of-span h e =
-        let b = and-both (leb (lower z) (getD cut q 0)) (ltb (getD cut q 0) (upper z)) e in
-        let low = leb-true (lower z) (getD cut q 0) (b .0) in
-        let high = ltb-true (getD cut q 0) (upper z) (b .1) in (
-          ⊎-elim (λ (g : f ≤ q). g) (λ (g : q < f). absurd (omega (arith, C .up q f g (omega (arith, P .order, P .within)), P .from))) (le-or-lt f q),
-          ⊎-elim (λ (g : t ≤ q). absurd (omega (arith, cut-le C t q g (omega arith), P .to))) (λ (g : q < t). g) (le-or-lt t q),
+        let b = covers-is z (getD cut q 0) .0 e in (
+          ⊎-elim (λ (g : f ≤ q). g) (λ (g : q < f). absurd (omega (arith, C .up q f g (omega (arith, P .order, P .within)), P .from, b .0))) (le-or-lt f q),
+          ⊎-elim (λ (g : t ≤ q). absurd (omega (arith, cut-le C t q g (omega arith), P .to, b .1))) (λ (g : q < t). g) (le-or-lt t q),
         )
 
 module _ {m n : State} {r z v : ℕ} (J : Joined m n r z v) where

@@ -23,7 +23,7 @@ use Rattle.meaning.proofs.Words.{Sized, link-of, rank-of, lower-of, upp
 use Rattle.meaning.proofs.Ranks.{Wins, wins-once}
 use Rattle.meaning.proofs.Sound.{Sound}
 use Rattle.meaning.proofs.Kept.{Clear, clear, clear-remove, rule-new, rule-old, sound}
-use Rattle.meaning.proofs.Means.{wins}
+use Rattle.meaning.proofs.Means.{both-cover, wins}
 
 -- ---- the winner
 
@@ -50,7 +50,7 @@ covers-is w a = (
 -- two rules overlap exactly when some address is covered by both
 pub overlap-is : (x y : ℕ) → (overlap x y ≡ true) ↔ ((a : ℕ) × (covers x a ≡ true) × (covers y a ≡ true))
 unfolding overlap
-overlap-is x y = (there, back)
+overlap-is x y = (there, λ r. both-cover x y (r .0) (r .1) (r .2))
   where
     wide : (w : ℕ) → lower w < upper w
     wide w = unfold lower upper in omega (arith, pow-pos (w / 2 ^ 38 % 64))
@@ -64,12 +64,6 @@ overlap-is x y = (there, back)
         (λ (h : lower x ≤ lower y). (lower y, covers-is x (lower y) .1 (h, q), covers-is y (lower y) .1 (omega arith, wide y)))
         (λ (h : lower y < lower x). (lower x, covers-is x (lower x) .1 (omega arith, wide x), covers-is y (lower x) .1 (omega arith, p)))
         (le-or-lt (lower x) (lower y))
-
-    back : (a : ℕ) × (covers x a ≡ true) × (covers y a ≡ true) → (ltb (lower x) (upper y) && ltb (lower y) (upper x)) ≡ true
-    back r =
-        let p = covers-is x (r .0) .0 (r .1) in
-        let q = covers-is y (r .0) .0 (r .2) in
-        ap₂ _&&_ (lt-ltb (lower x) (upper y) (omega (arith, p .0, q .1))) (lt-ltb (lower y) (upper x) (omega (arith, q .0, p .1)))
 
 module _ (m : State) (v a : ℕ) where
   serves : (i : ℕ) → i < 256 → eligible m v a i ≡ true → Serves m v a i
@@ -128,7 +122,7 @@ module _ (m : State) (v a : ℕ) (c : Came m) where
   pub no-tie : (i j : ℕ) → Serves m v a i → Serves m v a j → rank (ruleAt m i) ≡ rank (ruleAt m j) → i ≡ j
   no-tie i j s t e =
       sound m c .distinct i j (s .number) (t .number) (s .alive) (t .alive) (s .here ∙ sym (t .here)) e
-      (overlap-is _ _ .1 (a, covers-is _ a .1 (s .from, s .below), covers-is _ a .1 (t .from, t .below)))
+      (both-cover _ _ a (covers-is _ a .1 (s .from, s .below)) (covers-is _ a .1 (t .from, t .below)))
 
 -- ---- the rules
 
