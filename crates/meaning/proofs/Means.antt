@@ -12,10 +12,11 @@ use Rattle.meaning.specs.Search.{pick, anyBelow, countBelow}
 use Rattle.meaning.specs.Hall.{State, sourceOf, endOf}
 use Rattle.meaning.specs.Rule.{live, linkOf, rank, lower, upper, covers, overlap}
 use Rattle.meaning.specs.Winner.{ruleAt, eligible, winner, linkFor, nextAt}
-use Rattle.meaning.specs.Walk.{Place, at, out, lost, arrive, leave, move, after, stands, standsAt, goesRound, onCircle}
+use Rattle.meaning.specs.Walk.{Place, at, out, lost, after, stands, standsAt, goesRound, onCircle}
 use Rattle.meaning.specs.Questions.{fateOf, loopsAt, circleAt, isOut, isLost, isRound}
 use Rattle.meaning.proofs.Ranks.{Wins, Distinct, winner-law}
 use Rattle.meaning.proofs.Members.{any-true, any-some, and-both}
+use Rattle.meaning.proofs.Moves.{goes-to}
 use Rattle.meaning.proofs.Walks.{Going, Never, Closed, OnCircle, IsFate, never, fate-is}
 use Rattle.meaning.proofs.Circles.{never-circle, circle-short}
 use Rattle.meaning.proofs.Sound.{Sound}
@@ -70,17 +71,9 @@ module _ (m : State) (S : Sound m) (v a : ℕ) where
 
 module _ (m : State) (S : Sound m) (a : ℕ) where
   pub closed-in : Closed (nextAt m a) (endOf m) (m .nodes)
-  unfolding move leave arrive
-  closed-in v w h e = go (nextAt m a v) refl e
-    where
-      arrived : (l x : ℕ) → l < m .links → endOf m l ≡ x → (p q : Bool) → ltb x 256 ≡ p → pick p (at x) (pick q (out l) (lost v)) ≡ at w → w < m .nodes
-      arrived l x hl f true q g e = let z : x ≡ w = cc in let k = ltb-true x 256 g in omega (arith, S .ends l hl (omega arith))
-      arrived l x hl f false true g e = let z : _≡_ {A = ℕ} 0 1 = cc in absurd (omega arith)
-      arrived l x hl f false false g e = let z : _≡_ {A = ℕ} 0 1 = cc in absurd (omega arith)
-
-      go : (o : Option ℕ) → nextAt m a v ≡ o → leave (endOf m) v o ≡ at w → w < m .nodes
-      go none f e = let z : _≡_ {A = ℕ} 0 1 = cc in absurd (omega arith)
-      go (some l) f e = arrived l (endOf m l) (taken-link m S v a l f) refl (ltb (endOf m l) 256) (ltb (endOf m l) 512) refl e
+  closed-in v w h e =
+      let g = goes-to (nextAt m a) (endOf m) v w .0 e in
+      omega (arith, g .2, S .ends (g .0) (taken-link m S v a (g .0) (g .1)) (omega (arith, g .2, g .3)))
 
 -- ---- a place's tests
 

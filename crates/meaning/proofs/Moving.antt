@@ -10,11 +10,12 @@ use native.Mathlib.Numerals.{add-one}
 use native.Mathlib.Omega.{arith}
 use borrow.Author.Count.{below-more}
 use lib.Bits.{bitOr, bitAnd, or-comm}
-use lib.Dec.{ltb, eqb}
-use borrow.Author.Tests.{lt-ltb, le-ltb, eq-eqb, ne-eqb}
-use Rattle.meaning.specs.Search.{pick, anyBelow}
+use lib.Dec.{eqb}
+use borrow.Author.Tests.{lt-ltb, eq-eqb, ne-eqb}
+use Rattle.meaning.specs.Search.{anyBelow}
 use Rattle.meaning.specs.Labels.{bit}
-use Rattle.meaning.specs.Walk.{Place, at, out, lost, arrive, leave, move, after, standsAt, onCircle, comesTo}
+use Rattle.meaning.specs.Walk.{Place, at, out, lost, move, after, standsAt, onCircle, comesTo}
+use Rattle.meaning.proofs.Moves.{goes-to}
 use Rattle.meaning.proofs.Walks.{Reaches, after-suc, going-le}
 use Rattle.meaning.proofs.Places.{le-or-lt}
 use Rattle.meaning.proofs.Members.{any-true, any-some}
@@ -23,11 +24,6 @@ use Rattle.meaning.proofs.Means.{stands-at, at-stands}
 use Rattle.meaning.proofs.Bits.{bit-of-zero, or-bits, and-bits, ones-bits, set-bit, shifted}
 use Rattle.meaning.proofs.Circles.{round-again}
 use Rattle.meaning.proofs.Owners.{ownerIn, viaLink, nextIn}
-
--- a place that is no node
-apart : (v l w : ℕ) (t : Bool) → pick t (out l) (lost v) ≡ at w → ⊥
-apart v l w true e = let z : _≡_ {A = ℕ} 0 1 = cc in omega arith
-apart v l w false e = let z : _≡_ {A = ℕ} 0 1 = cc in omega arith
 
 -- the next link by an owner, and where it leads
 module _ (owner : List ℕ) (k v : ℕ) (h : v < 16) where
@@ -41,18 +37,19 @@ module _ (owner : List ℕ) (k v : ℕ) (h : v < 16) where
 
   module _ (end : ℕ → ℕ) where
     pub no-owner : ownerIn owner k v ≡ 0 → (w : ℕ) → move (nextIn owner k) end (at v) ≡ at w → ⊥
-    unfolding move leave
-    no-owner e w q = apart v 0 w false (sym (ap (leave end v) (next-none e)) ∙ q)
+    no-owner e w q =
+        let g = goes-to (nextIn owner k) end v w .0 q in
+        let z : _≡_ {A = ℕ} 0 1 = cc (next-none e, g .1) in
+        omega arith
 
     pub to-node : (ownerIn owner k v ≡ 0 → ⊥) → end (ownerIn owner k v / 512 % 64) < 256 → move (nextIn owner k) end (at v) ≡ at (end (ownerIn owner k v / 512 % 64))
-    unfolding move leave arrive
-    to-node n l = rw (next-some n, lt-ltb (end (ownerIn owner k v / 512 % 64)) 256 l)
+    to-node n l = goes-to (nextIn owner k) end v _ .1 (_, next-some n, refl, l)
 
     pub to-end : (ownerIn owner k v ≡ 0 → ⊥) → 256 ≤ end (ownerIn owner k v / 512 % 64) → (w : ℕ) → move (nextIn owner k) end (at v) ≡ at w → ⊥
-    unfolding move leave arrive
     to-end n l w q =
-        let x : ℕ = ownerIn owner k v / 512 % 64 in
-        apart v x w (ltb (end x) 512) (sym (ap (leave end v) (next-some n) ∙ ap (λ (t : Bool). pick t (at (end x)) (pick (ltb (end x) 512) (out x) (lost v))) (le-ltb (end x) 256 l)) ∙ q)
+        let g = goes-to (nextIn owner k) end v w .0 q in
+        let e : g .0 ≡ ownerIn owner k v / 512 % 64 = cc (next-some n, g .1) in
+        omega (arith, ap end e, g .2, g .3)
 
 -- some number below n has P, where those below i have not
 module _ (P : ℕ → Bool) (n i : ℕ) (before : (k : ℕ) → k < i → P k ≡ false) where
