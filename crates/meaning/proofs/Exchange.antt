@@ -22,6 +22,7 @@ use Rattle.meaning.specs.declared.Record.the-variants.{Insert as insert,
 use Rattle.meaning.specs.Step.{withRule, inserted, listed, changes}
 use Rattle.meaning.proofs.Words.{Sized, link-of, free-zero}
 use Rattle.meaning.proofs.Sound.{Sound}
+use Rattle.meaning.proofs.Lists.{places-same}
 use Rattle.meaning.proofs.Kept.{Clear}
 use Rattle.meaning.specs.Walk.{at, after, standsAt, comesTo}
 use Rattle.meaning.proofs.Members.{any-true, any-some}
@@ -70,11 +71,6 @@ module _ (m : State) (S : Sound m) (r l p n t : ℕ) (F : Sized l p t) (C : Clea
       let c = getD (back .cut) q 0 in
       ap not (ap (eqb (winner there v c)) (winner-same back m rules-back links-back v c) ∙ eqb-comm (winner there v c) (winner m v c))
 
-  same-places : (v k : ℕ) → changedPlaces there back v k ≡ changedPlaces m there v k
-  unfolding changedPlaces
-  same-places v zero = refl
-  same-places v (suc k) = rw (same-places v k, same-change v k)
-
   rule-there : ruleAt there r ≡ w
   unfolding ruleAt inserted withRule withCut
   rule-there = getD-set-same (m .rule) r w 0 (omega (arith, S .rules, C .number))
@@ -87,7 +83,7 @@ module _ (m : State) (S : Sound m) (r l p n t : ℕ) (F : Sized l p t) (C : Clea
   -- THE LAW: the same places
   pub exchanged : changes there (remove r) ≡ changes m (insert r l p n t)
   unfolding changes listed
-  exchanged = ap (λ (v : ℕ). changedPlaces there back v (back .atoms)) node-there ∙ same-places (sourceOf m l) _ ∙ (unfold withRule in refl)
+  exchanged = ap (λ (v : ℕ). changedPlaces there back v (back .atoms)) node-there ∙ places-same there back m there (sourceOf m l) (same-change (sourceOf m l)) _ ∙ (unfold withRule in refl)
 
   -- with the same atom and ends, and the links exchanged
   pub exchanged-entry : (v q : ℕ) → entryAt there back v q

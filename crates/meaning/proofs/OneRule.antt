@@ -31,6 +31,7 @@ use Rattle.meaning.proofs.Places.{le-or-lt, place-le, place-max, cut-le
 use Rattle.meaning.proofs.Parted.{boundary-is}
 use Rattle.meaning.proofs.Kept.{Clear, clear, ClearRemove, clear-remove, rule-new, rule-old, keeps}
 use Rattle.meaning.proofs.Exchange.{winner-same, next-same}
+use Rattle.meaning.proofs.Lists.{places-same}
 use Rattle.meaning.proofs.Owners.{via}
 use Rattle.meaning.proofs.Labelled.{link-small, via-word, via-won, won-at}
 
@@ -336,9 +337,8 @@ module _ (m n : State) (v : ℕ) where
 -- only the rules and the links of the state before count
 module _ (m o n : State) (rules : m .rule ≡ o .rule) (links : m .link ≡ o .link) (v : ℕ) where
   pub same-places : (k : ℕ) → changedPlaces m n v k ≡ changedPlaces o n v k
-  unfolding changedPlaces changedAt
-  same-places zero = refl
-  same-places (suc p) = rw (same-places p, winner-same m o rules links v (getD (n .cut) p 0))
+  unfolding changedAt
+  same-places = places-same m n o n v (λ q. rw (winner-same m o rules links v (getD (n .cut) q 0)))
 
   pub same-entries : (ps : List ℕ) → entriesAt m n v ps ≡ entriesAt o n v ps
   unfolding entriesAt entryAt
