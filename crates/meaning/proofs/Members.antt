@@ -1,6 +1,7 @@
 -- The words of the labels are their members. Assumes nothing.
 use mathlib.Core.Bool.{Bool, true, false, _&&_, _||_, true≢false, or-true}
 use mathlib.Core.List.{List}
+use mathlib.Core.Logic.{_⊎_, inl, inr}
 use mathlib.Core.Path.{_≡_, refl, sym, ap, ap₂, _∙_}
 use Prim.Native.Nat.{ℕ, zero, suc, _+_, _-_, _*_, _/_, _%_, _^_, _<_}
 use native.Mathlib.Nat.{not-suc-le-zero, pow-suc, pow-succ', div-one, div-div-eq-div-mul, mod-lt, zero-lt-suc, add-zero}
@@ -119,6 +120,10 @@ any-one P n i l h = go (P i) refl (anyBelow n P) refl
 pub and-both : (a b : Bool) → (a && b) ≡ true → (a ≡ true) × (b ≡ true)
 and-both true b e = (refl, e)
 and-both false b e = absurd (true≢false (sym e))
+
+pub or-either : (a b : Bool) → (a || b) ≡ true → (a ≡ true) ⊎ (b ≡ true)
+or-either true b e = inl refl
+or-either false b e = inr e
 
 -- a number is one place's
 pub one-place : {number : List ℕ} {n : ℕ} → Numbers number n → (p q : ℕ) → p < n → q < n → getD number p 0 ≡ getD number q 0 → p ≡ q

@@ -32,6 +32,7 @@ use Rattle.meaning.proofs.Parted.{boundary-is}
 use Rattle.meaning.proofs.Kept.{Clear, clear, ClearRemove, clear-remove, rule-new, rule-old, keeps}
 use Rattle.meaning.proofs.Exchange.{winner-same, next-same}
 use Rattle.meaning.proofs.Lists.{places-same}
+use Rattle.meaning.proofs.Ends as ends
 use Rattle.meaning.proofs.Owners.{via}
 use Rattle.meaning.proofs.Labelled.{link-small, via-word, via-won, won-at}
 
@@ -307,9 +308,7 @@ module _ (m n : State) (v : ℕ) where
   entries-append (p ∷ ps) qs = rw (entries-append ps qs) (sym (append-assoc (entryAt m n v p) (entriesAt m n v ps) (entriesAt m n v qs)))
 
   pub entries-length : (ps : List ℕ) → length (entriesAt m n v ps) ≡ 5 * length ps
-  unfolding entriesAt entryAt
-  entries-length [] = refl
-  entries-length (p ∷ ps) = omega (arith, entries-length ps)
+  entries-length = ends.entries-length m n v
 
   -- the words of the first k places
   abbrev pub listTo : ℕ → List ℕ

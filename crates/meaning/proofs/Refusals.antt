@@ -2,7 +2,7 @@
 -- and the number is one of those reasons' own. Assumes nothing.
 use mathlib.Core.Path.{_≡_, refl, sym, ap, _∙_}
 use mathlib.Core.Logic.{_⊎_, inl, inr, ⊎-elim}
-use mathlib.Core.Bool.{Bool, true, false, not, _&&_, _||_, true≢false}
+use mathlib.Core.Bool.{Bool, true, false, not, _&&_, true≢false}
 use mathlib.Core.Option.{Option, none, some}
 use Prim.Native.Nat.{ℕ, _+_, _-_, _%_, _^_, _≤_, _<_}
 use native.Mathlib.Omega.{arith}
@@ -16,7 +16,7 @@ use Rattle.meaning.specs.Rule.{ruleWord, live, linkOf, rank, covers}
 use Rattle.meaning.specs.Winner.{ruleAt}
 use Rattle.meaning.specs.Step.{when, ragged, clashes, added, refusal}
 use Rattle.meaning.specs.Run.{Came}
-use Rattle.meaning.proofs.Members.{any-true, any-some, and-both}
+use Rattle.meaning.proofs.Members.{any-true, any-some, and-both, or-either}
 use Rattle.meaning.proofs.Sound.{when-none, or-false}
 use Rattle.meaning.proofs.Kept.{clear-link, clear, clear-remove, sound}
 use Rattle.meaning.proofs.Winners.{overlap-is}
@@ -52,10 +52,6 @@ pub data Reason (m : State) : Record → ℕ → Type 0 where
 
 -- ---- tests
 
-or-true : (a b : Bool) → (a || b) ≡ true → (a ≡ true) ⊎ (b ≡ true)
-or-true true b e = inl refl
-or-true false b e = inr e
-
 module _ (m : State) where
   -- a tie is what check 12 looks for
   pub ties : (w : ℕ) → clashes m w ≡ true → (i : ℕ) × Ties m w i
@@ -87,12 +83,12 @@ module _ (m : State) where
   pub reason : (r : Record) (k : ℕ) → refusal m r ≡ some k → Reason m r k
   unfolding refusal ragged
   reason (hall n) =
-      check (hall n) _ 4 _ (λ e. no-node-count n (⊎-elim (λ f. inl (eqb-true n 0 f)) (λ f. inr (ltb-true 16 n f)) (or-true (eqb n 0) (ltb 16 n) e))) (passes (hall n))
+      check (hall n) _ 4 _ (λ e. no-node-count n (⊎-elim (λ f. inl (eqb-true n 0 f)) (λ f. inr (ltb-true 16 n f)) (or-either (eqb n 0) (ltb 16 n) e))) (passes (hall n))
   reason (link s c e) =
       check (link s c e) _ 6 _ (λ f. many-links s c e (leb-true 64 (m .links) f))
       (check (link s c e) _ 4 _ (λ f. no-source s c e (leb-true (m .nodes) s f))
       (check (link s c e) _ 7 _
-      (λ f. no-end s c e (⊎-elim (λ g. inl (ltb-true 2 c g)) (λ g. let b = and-both (eqb c 2) (not (eqb e 0)) g in inr (eqb-true c 2 (b .0), eqb-false e 0 (not-true _ (b .1)))) (or-true (ltb 2 c) (eqb c 2 && not (eqb e 0)) f)))
+      (λ f. no-end s c e (⊎-elim (λ g. inl (ltb-true 2 c g)) (λ g. let b = and-both (eqb c 2) (not (eqb e 0)) g in inr (eqb-true c 2 (b .0), eqb-false e 0 (not-true _ (b .1)))) (or-either (ltb 2 c) (eqb c 2 && not (eqb e 0)) f)))
       (check (link s c e) _ 4 _ (λ f. let b = and-both (eqb c 0) (leb (m .nodes) e) f in no-end-node s c e (eqb-true c 0 (b .0)) (leb-true (m .nodes) e (b .1))) (passes (link s c e)))))
   reason close = passes close
   reason (insert r l p n t) =
@@ -100,7 +96,7 @@ module _ (m : State) where
       (check (insert r l p n t) _ 9 _ (λ f. is-live r l p n t f)
       (check (insert r l p n t) _ 5 _ (λ f. no-link r l p n t (leb-true (m .links) l f))
       (check (insert r l p n t) _ 11 _
-      (λ f. no-prefix r l p n t (⊎-elim (λ g. inl (ltb-true 32 n g)) (λ g. inr (eqb-false _ 0 (not-true _ g))) (or-true (ltb 32 n) (not (eqb (p % 2 ^ (32 - n)) 0)) f)))
+      (λ f. no-prefix r l p n t (⊎-elim (λ g. inl (ltb-true 32 n g)) (λ g. inr (eqb-false _ 0 (not-true _ g))) (or-either (ltb 32 n) (not (eqb (p % 2 ^ (32 - n)) 0)) f)))
       (check (insert r l p n t) _ 12 _ (λ f. let x = ties (ruleWord l p n t) f in tied r l p n t (x .0) (x .1))
       (check (insert r l p n t) _ 13 _ (λ f. full r l p n t (omega (arith, ltb-true 512 (m .atoms + added m (ruleWord l p n t)) f))) (passes (insert r l p n t)))))))
   reason (remove r) =
