@@ -14,7 +14,7 @@ use Rattle.meaning.specs.Rule.{live, linkOf, rank, lower, upper, covers,
 use Rattle.meaning.specs.Winner.{ruleAt, eligible, winner, linkFor, nextAt}
 use Rattle.meaning.specs.Walk.{Place, at, out, lost, after, stands, standsAt, goesRound, onCircle}
 use Rattle.meaning.specs.Questions.{fateOf, loopsAt, circleAt, isOut, isLost, isRound}
-use Rattle.meaning.proofs.Ranks.{Wins, Distinct, winner-law}
+use Rattle.meaning.proofs.Ranks.{Wins, Distinct, wins-once, winner-law}
 use Rattle.meaning.proofs.Members.{any-true, any-some, and-both}
 use Rattle.meaning.proofs.Moves.{goes-to}
 use Rattle.meaning.proofs.Walks.{Going, Never, Closed, OnCircle, IsFate, never, fate-is}
@@ -33,6 +33,10 @@ both-cover x y a p q =
     ap₂ _&&_ (lt-ltb (lower x) (upper y) (omega (arith, leb-true (lower x) a (b .0), ltb-true a (upper y) (c .1))))
     (lt-ltb (lower y) (upper x) (omega (arith, leb-true (lower y) a (c .0), ltb-true a (upper x) (b .1))))
 
+-- w is the one eligible rule of the highest rank, or 256 where no rule is eligible
+abbrev pub Winner : State → ℕ → ℕ → ℕ → Type 0
+Winner m v a w = ((w ≡ 256) × ((i : ℕ) → i < 256 → eligible m v a i ≡ true → ⊥)) ⊎ Wins (eligible m v a) (λ i. rank (ruleAt m i)) 256 w
+
 module _ (m : State) (S : Sound m) (v a : ℕ) where
   pub record Fit (i : ℕ) : Type 0 where
     pub alive : live (ruleAt m i) ≡ true
@@ -49,18 +53,27 @@ module _ (m : State) (S : Sound m) (v a : ℕ) where
       let y = fit j q in
       S .distinct i j hi hj (x .alive) (y .alive) (x .here ∙ sym (y .here)) e (both-cover _ _ a (x .over) (y .over))
 
-  -- THE LAW: no rule is eligible, or the winner is the one eligible rule that outranks every other
-  pub wins : ((winner m v a ≡ 256) × ((i : ℕ) → i < 256 → eligible m v a i ≡ true → ⊥)) ⊎ Wins (eligible m v a) (λ i. rank (ruleAt m i)) 256 (winner m v a)
+  -- THE LAW: the winner is such a number
+  pub wins : Winner m v a (winner m v a)
   unfolding winner
   wins = winner-law (eligible m v a) (λ i. rank (ruleAt m i)) 256 (omega arith) ranks
+
+  -- and no other number is
+  pub winner-only : (w : ℕ) → Winner m v a w → winner m v a ≡ w
+  winner-only w = go wins
+    where
+      go : Winner m v a (winner m v a) → Winner m v a w → winner m v a ≡ w
+      go (inl x) (inl y) = x .0 ∙ sym (y .0)
+      go (inl x) (inr y) = absurd (x .1 w (y .within) (y .fits))
+      go (inr x) (inl y) = absurd (y .1 (winner m v a) (x .within) (x .fits))
+      go (inr x) (inr y) = wins-once _ _ 256 (winner m v a) w x y
 
   -- a link that a packet takes is declared
   pub taken-link : (l : ℕ) → nextAt m a v ≡ some l → l < m .links
   unfolding nextAt linkFor
   taken-link l e = go wins (ltb (winner m v a) 256) refl e
     where
-      go : ((winner m v a ≡ 256) × ((i : ℕ) → i < 256 → eligible m v a i ≡ true → ⊥)) ⊎ Wins (eligible m v a) (λ i. rank (ruleAt m i)) 256 (winner m v a)
-          → (t : Bool) → ltb (winner m v a) 256 ≡ t → pick t (some (linkOf (ruleAt m (winner m v a)))) none ≡ some l → l < m .links
+      go : Winner m v a (winner m v a) → (t : Bool) → ltb (winner m v a) 256 ≡ t → pick t (some (linkOf (ruleAt m (winner m v a)))) none ≡ some l → l < m .links
       go x false p f = let z : _≡_ {A = ℕ} 0 1 = cc in absurd (omega arith)
       go (inl x) true p f = absurd (omega (arith, x .0, ltb-true (winner m v a) 256 p))
       go (inr x) true p f =

@@ -24,8 +24,8 @@ use Rattle.meaning.specs.Step.{refusal, withRule, inserted, leaves, node
 use Rattle.meaning.proofs.Words.{link-of, live-of, Sized, Fits}
 use Rattle.meaning.proofs.Tables.{Cuts, Boundary}
 use Rattle.meaning.proofs.Sound.{Sound}
-use Rattle.meaning.proofs.Ranks.{Wins, wins-once, keep-out, take-first, take-higher, keep-lower}
-use Rattle.meaning.proofs.Means.{fit, wins}
+use Rattle.meaning.proofs.Ranks.{Wins, keep-out, take-first, take-higher, keep-lower}
+use Rattle.meaning.proofs.Means.{Winner, fit, wins, winner-only}
 use Rattle.meaning.proofs.Winners.{covers-is}
 use Rattle.meaning.proofs.Places.{le-or-lt, place-le, place-max, cut-le}
 use Rattle.meaning.proofs.Parted.{boundary-is}
@@ -35,21 +35,6 @@ use Rattle.meaning.proofs.Lists.{places-same}
 use Rattle.meaning.proofs.Ends as ends
 use Rattle.meaning.proofs.Owners.{via}
 use Rattle.meaning.proofs.Labelled.{link-small, via-word, via-won, won-at}
-
--- ---- the winner is known by what it is
-
--- w is the one eligible rule of the highest rank, or 256 where no rule is eligible
-abbrev pub Winner : State → ℕ → ℕ → ℕ → Type 0
-Winner m v a w = ((w ≡ 256) × ((i : ℕ) → i < 256 → eligible m v a i ≡ true → ⊥)) ⊎ Wins (eligible m v a) (λ i. rank (ruleAt m i)) 256 w
-
-pub winner-only : (m : State) → Sound m → (v a w : ℕ) → Winner m v a w → winner m v a ≡ w
-winner-only m S v a w W = go (wins m S v a) W
-  where
-    go : Winner m v a (winner m v a) → Winner m v a w → winner m v a ≡ w
-    go (inl x) (inl y) = x .0 ∙ sym (y .0)
-    go (inl x) (inr y) = absurd (x .1 w (y .within) (y .fits))
-    go (inr x) (inl y) = absurd (y .1 (winner m v a) (x .within) (x .fits))
-    go (inr x) (inr y) = wins-once _ _ 256 (winner m v a) w x y
 
 pub winner-le : (m : State) → Sound m → (v a : ℕ) → winner m v a ≤ 256
 winner-le m S v a = ⊎-elim (λ x. omega (arith, x .0)) (λ x. omega (arith, x .within)) (wins m S v a)

@@ -50,7 +50,7 @@ pub data Reason (m : State) : Record → ℕ → Type 0 where
   tied : (r l p n t i : ℕ) → Ties m (ruleWord l p n t) i → Reason m (insert r l p n t) 12
   full : (r l p n t : ℕ) → 511 < (m .atoms - 1) + added m (ruleWord l p n t) → Reason m (insert r l p n t) 13
 
--- ---- tests
+-- ---- the checks
 
 module _ (m : State) where
   -- a tie is what check 12 looks for
