@@ -1,12 +1,12 @@
 -- The bits of a number, and what the machine's operations do to each of them. Assumes nothing.
 use mathlib.Core.Bool.{Bool, true, false, _||_, _&&_, not}
-use mathlib.Core.Path.{_≡_, refl, sym, ap, _∙_}
+use mathlib.Core.Path.{_≡_, refl, sym, ap, ap₂, _∙_}
 use Prim.Native.Nat.{ℕ, zero, suc, _+_, _-_, _*_, _/_, _%_, _^_, _<_, min, max}
-use native.Mathlib.Nat.{mod-lt, zero-div, not-suc-le-zero, pow-suc, zero-lt-suc, mod-eq-of-lt, one-mul, le-of-suc-le-suc}
+use native.Mathlib.Nat.{mod-lt, zero-div, not-suc-le-zero, pow-suc, zero-lt-suc, mod-eq-of-lt, one-mul, sub-zero, le-of-suc-le-suc}
 use native.Mathlib.Omega.{arith}
 use lib.Dec.{eqb, eqb·zero-suc, eqb·suc-zero, eqb·suc-suc}
 use lib.Arith.{lt-one}
-use lib.Pow.{pow-lt}
+use lib.Pow.{pow-pos, pow-lt}
 use lib.Bits.{bitOr, bitAnd, bitXor, or-step, and-step, or-shr, and-shr, or-add-and, xor-add-and, and-le-l, and-le-r}
 use Rattle.meaning.specs.Search.{pick}
 use Rattle.meaning.specs.Labels.{bit}
@@ -31,19 +31,21 @@ digit (suc (suc d)) h = absurd (not-suc-le-zero (le-of-suc-le-suc (le-of-suc-le-
 pub digit-same : (d e : ℕ) → d < 2 → e < 2 → eqb d 1 ≡ eqb e 1 → d ≡ e
 digit-same d e hd he h = sym (digit d hd) ∙ ap digitOf h ∙ digit e he
 
-or-digit : (d : ℕ) (q : Bool) → d < 2 → eqb (max d (digitOf q)) 1 ≡ eqb d 1 || q
-or-digit zero true h = refl
-or-digit zero false h = refl
-or-digit (suc zero) true h = refl
-or-digit (suc zero) false h = refl
-or-digit (suc (suc d)) q h = absurd (not-suc-le-zero (le-of-suc-le-suc (le-of-suc-le-suc h)))
+or-digit : (p q : Bool) → eqb (max (digitOf p) (digitOf q)) 1 ≡ p || q
+or-digit true true = refl
+or-digit true false = refl
+or-digit false true = refl
+or-digit false false = refl
 
-and-digit : (d : ℕ) (q : Bool) → d < 2 → eqb (min d (1 - digitOf q)) 1 ≡ eqb d 1 && not q
-and-digit zero true h = refl
-and-digit zero false h = refl
-and-digit (suc zero) true h = refl
-and-digit (suc zero) false h = refl
-and-digit (suc (suc d)) q h = absurd (not-suc-le-zero (le-of-suc-le-suc (le-of-suc-le-suc h)))
+and-digit : (p q : Bool) → eqb (min (digitOf p) (digitOf q)) 1 ≡ p && q
+and-digit true true = refl
+and-digit true false = refl
+and-digit false true = refl
+and-digit false false = refl
+
+not-digit : (q : Bool) → eqb (1 - digitOf q) 1 ≡ not q
+not-digit true = refl
+not-digit false = refl
 
 -- ---- numbers of n bits are equal where their bits are
 pub bit-ext : (n a b : ℕ) → a < 2 ^ n → b < 2 ^ n → ((j : ℕ) → j < n → bit a j ≡ bit b j) → a ≡ b
@@ -57,13 +59,13 @@ bit-ext (suc n) a b ha hb h =
 
 -- ---- bit by bit: or, and, not, a power
 
-pub bit-or : (a b j : ℕ) → bit (bitOr a b) j ≡ max (bit a j) (bit b j)
+bit-or : (a b j : ℕ) → bit (bitOr a b) j ≡ max (bit a j) (bit b j)
 bit-or a b j = ap (λ (x : ℕ). x % 2) (or-shr a b j) ∙ low (a / 2 ^ j) (b / 2 ^ j)
   where
     low : (a b : ℕ) → bitOr a b % 2 ≡ max (a % 2) (b % 2)
     low a b = omega (arith, or-step a b)
 
-pub bit-and : (a b j : ℕ) → bit (bitAnd a b) j ≡ min (bit a j) (bit b j)
+bit-and : (a b j : ℕ) → bit (bitAnd a b) j ≡ min (bit a j) (bit b j)
 bit-and a b j = ap (λ (x : ℕ). x % 2) (and-shr a b j) ∙ low (a / 2 ^ j) (b / 2 ^ j)
   where
     low : (a b : ℕ) → bitAnd a b % 2 ≡ min (a % 2) (b % 2)
@@ -95,32 +97,37 @@ bit-power (suc b) (suc j) =
     let half : 2 ^ suc b / 2 ≡ 2 ^ b = omega (arith, pow-suc 2 b) in
     bit-suc (2 ^ suc b) j ∙ ap (λ (x : ℕ). bit x j) half ∙ bit-power b j ∙ ap digitOf (sym (eqb·suc-suc b j))
 
--- ---- two words, bit by bit
+-- ---- the same, as tests
 
-both-digit : (d : ℕ) (q : Bool) → d < 2 → eqb (min d (digitOf q)) 1 ≡ eqb d 1 && q
-both-digit zero true h = refl
-both-digit zero false h = refl
-both-digit (suc zero) true h = refl
-both-digit (suc zero) false h = refl
-both-digit (suc (suc d)) q h = absurd (not-suc-le-zero (le-of-suc-le-suc (le-of-suc-le-suc h)))
+-- a digit of a word is that of its test
+tested : (w j : ℕ) → bit w j ≡ digitOf (eqb (bit w j) 1)
+tested w j = sym (digit (bit w j) (bit-lt w j))
 
 pub or-bits : (a b j : ℕ) → eqb (bit (bitOr a b) j) 1 ≡ eqb (bit a j) 1 || eqb (bit b j) 1
-or-bits a b j =
-    ap (λ (x : ℕ). eqb x 1) (bit-or a b j ∙ ap (max (bit a j)) (sym (digit (bit b j) (bit-lt b j)))) ∙ or-digit (bit a j) (eqb (bit b j) 1) (bit-lt a j)
+or-bits a b j = ap (λ (x : ℕ). eqb x 1) (bit-or a b j ∙ ap₂ max (tested a j) (tested b j)) ∙ or-digit (eqb (bit a j) 1) (eqb (bit b j) 1)
 
 pub and-bits : (a b j : ℕ) → eqb (bit (bitAnd a b) j) 1 ≡ eqb (bit a j) 1 && eqb (bit b j) 1
-and-bits a b j =
-    ap (λ (x : ℕ). eqb x 1) (bit-and a b j ∙ ap (min (bit a j)) (sym (digit (bit b j) (bit-lt b j)))) ∙ both-digit (bit a j) (eqb (bit b j) 1) (bit-lt a j)
+and-bits a b j = ap (λ (x : ℕ). eqb x 1) (bit-and a b j ∙ ap₂ min (tested a j) (tested b j)) ∙ and-digit (eqb (bit a j) 1) (eqb (bit b j) 1)
+
+not-bits : (n b j : ℕ) → b < 2 ^ n → j < n → eqb (bit (2 ^ n - 1 - b) j) 1 ≡ not (eqb (bit b j) 1)
+not-bits n b j hb hj = ap (λ (x : ℕ). eqb x 1) (bit-not n b j hb hj ∙ ap (λ (x : ℕ). 1 - x) (tested b j)) ∙ not-digit (eqb (bit b j) 1)
 
 pub without-bits : (a b j : ℕ) → b < 2 ^ 64 → j < 64 → eqb (bit (bitAnd a (2 ^ 64 - 1 - b)) j) 1 ≡ eqb (bit a j) 1 && not (eqb (bit b j) 1)
-without-bits a b j hb hj =
-    ap (λ (x : ℕ). eqb x 1)
-    (bit-and a (2 ^ 64 - 1 - b) j ∙ ap (min (bit a j)) (bit-not 64 b j hb hj ∙ ap (λ (x : ℕ). 1 - x) (sym (digit (bit b j) (bit-lt b j)))))
-    ∙ and-digit (bit a j) (eqb (bit b j) 1) (bit-lt a j)
+without-bits a b j hb hj = and-bits a (2 ^ 64 - 1 - b) j ∙ ap (λ (t : Bool). eqb (bit a j) 1 && t) (not-bits 64 b j hb hj)
 
--- the word of all ones has every bit
+power-bits : (b j : ℕ) → eqb (bit (2 ^ b) j) 1 ≡ eqb b j
+power-bits b j = ap (λ (x : ℕ). eqb x 1) (bit-power b j) ∙ go (eqb b j)
+  where
+    go : (t : Bool) → eqb (digitOf t) 1 ≡ t
+    go true = refl
+    go false = refl
+
+-- the word of n ones has every bit
+pub ones-bits : (n j : ℕ) → j < n → eqb (bit (2 ^ n - 1) j) 1 ≡ true
+ones-bits n j h = ap (λ (x : ℕ). eqb (bit x j) 1) (sym (sub-zero (2 ^ n - 1))) ∙ not-bits n 0 j (pow-pos n) h ∙ ap (λ (x : ℕ). not (eqb x 1)) (bit-of-zero j)
+
 pub all-bits : (j : ℕ) → j < 64 → eqb (bit 18446744073709551615 j) 1 ≡ true
-all-bits j h = ap (λ (x : ℕ). eqb x 1) (bit-not 64 0 j (omega arith) h ∙ ap (λ (x : ℕ). 1 - x) (bit-of-zero j))
+all-bits j h = ones-bits 64 j h
 
 -- two words that join to none are none, and two that differ nowhere are one
 pub or-none : (a b : ℕ) → bitOr a b ≡ 0 → (a ≡ 0) × (b ≡ 0)
@@ -132,21 +139,18 @@ xor-none a b e = omega (arith, xor-add-and a b, and-le-l a b, and-le-r a b)
 -- ---- one bit set, and one cleared
 
 pub set-bit : (w b j : ℕ) → eqb (bit (bitOr w (2 ^ b)) j) 1 ≡ eqb (bit w j) 1 || eqb b j
-set-bit w b j =
-    ap (λ (x : ℕ). eqb x 1) (bit-or w (2 ^ b) j ∙ ap (max (bit w j)) (bit-power b j)) ∙ or-digit (bit w j) (eqb b j) (bit-lt w j)
+set-bit w b j = or-bits w (2 ^ b) j ∙ ap (λ (t : Bool). eqb (bit w j) 1 || t) (power-bits b j)
 
 pub clear-bit : (w b j : ℕ) → b < 64 → j < 64 → eqb (bit (bitAnd w (2 ^ 64 - 1 - 2 ^ b)) j) 1 ≡ eqb (bit w j) 1 && not (eqb b j)
-clear-bit w b j hb hj =
-    ap (λ (x : ℕ). eqb x 1) (bit-and w (2 ^ 64 - 1 - 2 ^ b) j ∙ ap (min (bit w j)) (bit-not 64 (2 ^ b) j (pow-lt hb) hj ∙ ap (λ (x : ℕ). 1 - x) (bit-power b j)))
-    ∙ and-digit (bit w j) (eqb b j) (bit-lt w j)
+clear-bit w b j hb hj = without-bits w (2 ^ b) j (pow-lt hb) hj ∙ ap (λ (t : Bool). eqb (bit w j) 1 && not t) (power-bits b j)
 
--- `1 << u` at 16 bits, and `1 << l` at 64
-pub mask-node : (u : ℕ) → u < 16 → 1 * 2 ^ u % 65536 ≡ 2 ^ u
-mask-node u h = ap (λ (x : ℕ). x % 65536) (one-mul (2 ^ u)) ∙ mod-eq-of-lt (pow-lt {j = 16} h)
+-- `1 << b` in a word of n bits
+pub shifted : (n b : ℕ) → b < n → 1 * 2 ^ b % 2 ^ n ≡ 2 ^ b
+shifted n b h = ap (λ (x : ℕ). x % 2 ^ n) (one-mul (2 ^ b)) ∙ mod-eq-of-lt (pow-lt h)
 
+-- at 64 bits: a link's, and `1 << (k % 64)` without side condition, so that `rw mask` closes what a shift leaves
 pub mask-link : (l : ℕ) → l < 64 → 1 * 2 ^ l % 2 ^ 64 ≡ 2 ^ l
-mask-link l h = ap (λ (x : ℕ). x % 2 ^ 64) (one-mul (2 ^ l)) ∙ mod-eq-of-lt (pow-lt {j = 64} h)
+mask-link = shifted 64
 
--- `1 << (k % 64)` at 64 bits: no side condition, so `rw mask` closes what a shift leaves
 pub mask : (k : ℕ) → 1 * 2 ^ (k % 64) % 2 ^ 64 ≡ 2 ^ (k % 64)
-mask k = mask-link (k % 64) (mod-lt k (zero-lt-suc 63))
+mask k = shifted 64 (k % 64) (mod-lt k (zero-lt-suc 63))

@@ -20,11 +20,10 @@ use Rattle.meaning.specs.Winner.{nextAt}
 use Rattle.meaning.specs.Walk.{onCircle, comesTo, fateIn}
 use Rattle.meaning.specs.Questions.{leastPlace, countPlace, fateOf, loopsAt, circleAt, someNode, loopFrom, reachesAt, reachFrom, isOut, isLost, isRound, asked, byAddress, byPlace}
 use Rattle.meaning.proofs.Tables.{Cuts, Holds}
-use Rattle.meaning.proofs.Places.{cut-top}
+use Rattle.meaning.proofs.Places.{cut-top, lower-holds}
 use Rattle.meaning.proofs.Constant.{by-place}
 use Rattle.meaning.proofs.Members.{any-true}
-use Rattle.meaning.proofs.Below.{lowest-is}
-use Rattle.meaning.proofs.Numbered.{lowest-off}
+use Rattle.meaning.proofs.Searches.{lowest-off, lowest-first}
 use Rattle.meaning.proofs.Circles.{circle-never}
 use Rattle.meaning.proofs.Means.{closed-in, round-is, circle-is, loop-circle}
 use Rattle.meaning.proofs.Owners.{ownerIn, via, nextIn, endIn, Ends, Whole}
@@ -108,7 +107,7 @@ module _ (m : State) (label owner : List ℕ) (W : Whole m label owner) where
 
   -- the lower end of a place lies in it
   pub lower-end : (p : ℕ) → p < m .atoms → Holds (m .cut) (m .atoms) (getD (m .cut) p 0) p
-  lower-end p h = record { within = h; from = omega arith; below = W .sound .cuts .up p (p + 1) (omega arith) (omega arith) }
+  lower-end = lower-holds (W .sound .cuts)
 
   links-are : (p : ℕ) → p < m .atoms → linksAt (m .number) owner p ≡ nextAt m (getD (m .cut) p 0)
   links-are p h = next-is m label owner W (getD (m .cut) p 0) p (lower-end p h)
@@ -151,7 +150,7 @@ module _ (m : State) (label owner : List ℕ) (W : Whole m label owner) where
   loop-is p v h l before f e =
       places loop
       ∙ ap (loopFrom m) (least-is (m .cut) (loopsAt m) (m .atoms) p h (some-loop p h v l e) (λ q g. no-loop q (omega arith) (before q g)))
-      ∙ ap (someNode (getD (m .cut) p 0)) (lowest-is _ (m .nodes) v l (sym (circle-same p h v) ∙ e) (λ u g. sym (circle-same p h u) ∙ f u g))
+      ∙ ap (someNode (getD (m .cut) p 0)) (lowest-first _ (m .nodes) v l (sym (circle-same p h v) ∙ e) (λ u g. sym (circle-same p h u) ∙ f u g))
 
   -- ---- reach
 

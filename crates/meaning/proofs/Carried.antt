@@ -5,7 +5,7 @@ use mathlib.Core.Logic.{_⊎_, inl, inr}
 use mathlib.Core.Bool.{Bool, true, false, _&&_, not, true≢false}
 use mathlib.Core.List.{List}
 use mathlib.Core.Option.{Option, none, some}
-use Prim.Native.Nat.{ℕ, zero, suc, _+_, _/_, _%_, _≤_, _<_}
+use Prim.Native.Nat.{ℕ, _/_, _%_, _≤_, _<_}
 use native.Mathlib.Decide.{decLt}
 use native.Mathlib.Omega.{arith}
 use lib.Dec.{ltb, eqb}
@@ -16,13 +16,13 @@ use Rattle.meaning.specs.declared.Fate.the-variants.{Out, Lost, Round}
 use Rattle.meaning.specs.Search.{pick, anyBelow}
 use Rattle.meaning.specs.Hall.{State, sourceOf}
 use Rattle.meaning.specs.Labels.{on}
-use Rattle.meaning.specs.Walk.{Place, at, out, lost, move, after, fateIn}
-use Rattle.meaning.specs.Questions.{isOut, isLost, isRound}
-use Rattle.meaning.proofs.Walks.{Closed, Reaches, IsFate, after-suc, going-down, below, fate-is, one-fate, few-out, few-lost}
-use Rattle.meaning.proofs.Fates.{goes-to, leaves-by, lost-at}
+use Rattle.meaning.specs.Walk.{at, move, after, fateIn}
+use Rattle.meaning.specs.Questions.{isOut, isLost}
+use Rattle.meaning.proofs.Walks.{Closed, Reaches, IsFate, below, fate-is, one-fate, few-out, few-lost}
+use Rattle.meaning.proofs.Moves.{goes-to, leaves-by, lost-at}
 use Rattle.meaning.proofs.Members.{any-true, any-some, and-both}
 use Rattle.meaning.proofs.Owners.{ownerIn, via, viaLink, nextIn, endIn, Whole}
-use Rattle.meaning.proofs.Labelled.{starts, won, via-won, source-small, ends-in, via-none}
+use Rattle.meaning.proofs.Labelled.{starts, won, via-won, source-small, ends-in}
 
 -- the source of link l
 abbrev pub sourceIn : List ℕ → ℕ → ℕ

@@ -1,9 +1,9 @@
 -- What the winners decide is constant on each atom, so the questions over addresses are those over places.
 -- Assumes nothing.
-use mathlib.Core.Path.{_≡_, refl, sym, ap, ap₂, _∙_, fun-ext}
+use mathlib.Core.Path.{_≡_, refl, sym, ap, _∙_, fun-ext}
 use mathlib.Core.Logic.{⊎-elim}
 use mathlib.Core.List.{List}
-use mathlib.Core.Bool.{Bool, true, false, _&&_, _||_}
+use mathlib.Core.Bool.{Bool, true, false, _&&_}
 use mathlib.Core.Option.{Option, none, some}
 use Prim.Native.Nat.{ℕ, zero, suc, _+_, _-_, _≤_, _<_}
 use native.Mathlib.Nat.{add-zero, add-suc}
@@ -11,8 +11,6 @@ use native.Mathlib.Omega.{arith}
 use lib.Dec.{leb, ltb, eqb}
 use lib.ListN.{getD}
 use borrow.Author.Tests.{lt-ltb, le-ltb, le-leb, lt-leb}
-use Rattle.meaning.specs.declared.Answer.{Answer}
-use Rattle.meaning.specs.declared.Answer.the-variants.{Tally}
 use Rattle.meaning.specs.Search.{pick, orElse, anyBelow, lowestBelow, countBelow}
 use Rattle.meaning.specs.Hall.{top, State, sourceOf, endOf}
 use Rattle.meaning.specs.Rule.{live, linkOf, rank, lower, upper, covers}
@@ -22,7 +20,7 @@ use Rattle.meaning.specs.Walk.{goesRound, comesTo, fateIn}
 use Rattle.meaning.specs.Questions.{leastPlace, countPlace, fateOf, loopsAt, loopFrom, reachesAt, reachFrom, isOut, isLost, isRound, asked, byAddress, byPlace}
 use Rattle.meaning.specs.declared.Record.{Record}
 use Rattle.meaning.specs.declared.Record.the-variants.{Hall as hall, Link as link, Close as close, Insert as insert, Remove as remove, Loop as loop, Fate as fate, Reach as reach, Tally as tally}
-use Rattle.meaning.proofs.Places.{le-or-lt, cut-le}
+use Rattle.meaning.proofs.Places.{beside}
 
 -- P says the same of every address of a place as of the place's lower end
 abbrev pub Constant : List ℕ → ℕ → (ℕ → Bool) → Type 0
@@ -98,17 +96,13 @@ module _ (m : State) (w : Cuts top (m .cut) (m .atoms)) (al : Aligned m) where
     -- no boundary lies between the lower end of a's place and a
     same-from : (x : ℕ) → Boundary (m .cut) (m .atoms) x → leb x a ≡ leb x (getD (m .cut) p 0)
     same-from x b =
-        ⊎-elim
-        (λ (g : b .place ≤ p). let h : x ≤ getD (m .cut) p 0 = omega (arith, cut-le w (b .place) p g (omega arith), b .is) in le-leb x a (omega arith) ∙ sym (le-leb x (getD (m .cut) p 0) h))
-        (λ (g : p < b .place). let h : a < x = omega (arith, cut-le w (suc p) (b .place) g (b .within), b .is) in lt-leb x a h ∙ sym (lt-leb x (getD (m .cut) p 0) (omega arith)))
-        (le-or-lt (b .place) p)
+        ⊎-elim (λ (h : x ≤ getD (m .cut) p 0). le-leb x a (omega arith) ∙ sym (le-leb x (getD (m .cut) p 0) h))
+        (λ (h : a < x). lt-leb x a h ∙ sym (lt-leb x (getD (m .cut) p 0) (omega arith))) (beside w p a x pn below b)
 
     same-to : (x : ℕ) → Boundary (m .cut) (m .atoms) x → ltb a x ≡ ltb (getD (m .cut) p 0) x
     same-to x b =
-        ⊎-elim
-        (λ (g : b .place ≤ p). let h : x ≤ getD (m .cut) p 0 = omega (arith, cut-le w (b .place) p g (omega arith), b .is) in le-ltb a x (omega arith) ∙ sym (le-ltb (getD (m .cut) p 0) x h))
-        (λ (g : p < b .place). let h : a < x = omega (arith, cut-le w (suc p) (b .place) g (b .within), b .is) in lt-ltb a x h ∙ sym (lt-ltb (getD (m .cut) p 0) x (omega arith)))
-        (le-or-lt (b .place) p)
+        ⊎-elim (λ (h : x ≤ getD (m .cut) p 0). le-ltb a x (omega arith) ∙ sym (le-ltb (getD (m .cut) p 0) x h))
+        (λ (h : a < x). lt-ltb a x h ∙ sym (lt-ltb (getD (m .cut) p 0) x (omega arith))) (beside w p a x pn below b)
 
     same-eligible : (v i : ℕ) → i < 256 → eligible m v a i ≡ eligible m v (getD (m .cut) p 0) i
     unfolding eligible covers

@@ -1,27 +1,24 @@
 -- The atoms after any records: each address lies in exactly one, their numbers are those below the counter, the winners are constant on each,
 -- and an atom is on a link exactly when, for each of its addresses, the winner at the link's source names the link. Assumes nothing.
 use mathlib.Core.Path.{_≡_, refl, sym, ap, _∙_}
-use mathlib.Core.Logic.{_↔_, _⊎_, inl, inr, ⊎-elim}
-use mathlib.Core.Bool.{Bool, true, false, true≢false}
+use mathlib.Core.Logic.{_↔_}
+use mathlib.Core.Bool.{true, false, true≢false}
 use mathlib.Core.Option.{Option, none, some}
 use Prim.Native.Nat.{ℕ, _+_, _≤_, _<_}
-use native.Mathlib.Nat.{eq-or-lt-of-le}
 use native.Mathlib.Numerals.{add-one}
 use native.Mathlib.Omega.{arith}
-use lib.Dec.{ltb}
 use lib.ListN.{getD}
-use borrow.Author.Tests.{eqb-true, eq-eqb, lt-ltb, le-ltb}
-use Rattle.meaning.specs.Search.{pick}
+use borrow.Author.Tests.{eqb-true, eq-eqb}
 use Rattle.meaning.specs.Hall.{top, State, sourceOf}
 use Rattle.meaning.specs.Winner.{winner, nextAt}
 use Rattle.meaning.specs.Atoms.{placeOf}
 use Rattle.meaning.specs.Labels.{on, names, isOn, labelsOf}
 use Rattle.meaning.specs.Run.{Came}
 use Rattle.meaning.proofs.Tables.{Holds}
-use Rattle.meaning.proofs.Places.{place-holds, holds-place, cut-top}
-use Rattle.meaning.proofs.Pigeon.{pigeon}
+use Rattle.meaning.proofs.Places.{place-holds, holds-place, lower-holds, cut-top}
+use Rattle.meaning.proofs.Numbered.{has-place, on-without}
 use Rattle.meaning.proofs.Constant.{same-winner, same-next}
-use Rattle.meaning.proofs.Members.{labels-on, any-some, and-both, one-place, on-place}
+use Rattle.meaning.proofs.Members.{labels-on, one-place, on-place}
 use Rattle.meaning.proofs.Sound.{Sound}
 use Rattle.meaning.proofs.Kept.{sound}
 
@@ -43,14 +40,15 @@ module _ (m : State) (S : Sound m) where
 
   -- two addresses of one atom lie in one place
   pub places-agree : (k a b : ℕ) (x : InAtom m k a) (y : InAtom m k b) → y .place ≡ x .place
-  places-agree k a b x y = one-place m (S .numbers) 0 (x .place) (x .holds .within) (y .place) (y .holds .within) (y .number ∙ sym (x .number))
+  places-agree k a b x y = one-place (S .numbers) (y .place) (x .place) (y .holds .within) (x .holds .within) (y .number ∙ sym (x .number))
 
   -- the ways of an address are those of its place's lower end
   pub ways-from : (k a : ℕ) (x : InAtom m k a) → nextAt m a ≡ nextAt m (getD (m .cut) (x .place) 0)
   ways-from k a x = same-next m (S .cuts) (S .aligned) (x .place) a (x .holds .within) (x .holds .from) (rw add-one at (x .holds .below))
 
-  pub winners-from : (v k a : ℕ) (x : InAtom m k a) → winner m v a ≡ winner m v (getD (m .cut) (x .place) 0)
-  winners-from v k a x = same-winner m (S .cuts) (S .aligned) (x .place) a (x .holds .within) (x .holds .from) (rw add-one at (x .holds .below)) v
+  -- and the winners there are its winners
+  pub constant-in : (v p a : ℕ) → Holds (m .cut) (m .atoms) a p → winner m v a ≡ winner m v (getD (m .cut) p 0)
+  constant-in v p a h = same-winner m (S .cuts) (S .aligned) p a (h .within) (h .from) (rw add-one at (h .below)) v
 
   -- the atom of an address is on a link just where the link is named for that address
   pub on-each : (l k a : ℕ) → InAtom m k a → isOn m l k ≡ names (nextAt m a (sourceOf m l)) l
@@ -58,31 +56,11 @@ module _ (m : State) (S : Sound m) where
       ap (isOn m l) (sym (x .number)) ∙ on-place m (S .numbers) l (x .place) (x .holds .within)
       ∙ ap (λ (f : ℕ → Option ℕ). names (f (sourceOf m l)) l) (sym (ways-from k a x))
 
-  -- each number below the counter has its place: as many numbers, apart, leave none out
-  pub place-of : (k : ℕ) → k < m .atoms → (p : ℕ) × (p < m .atoms) × (getD (m .number) p 0 ≡ k)
-  place-of k h = let t = pigeon n f small in go (t .i) (t .j) (t .less) (eq-or-lt-of-le (t .within)) (sym (below (t .i) (omega arith)) ∙ t .same)
-    where
-      n : ℕ
-      n = m .atoms
-
-      f : ℕ → ℕ
-      f i = pick (ltb i n) (getD (m .number) i 0) k
-
-      below : (i : ℕ) → i < n → f i ≡ getD (m .number) i 0
-      below i l = rw (lt-ltb i n l)
-
-      small : (i : ℕ) → i ≤ n → f i < n
-      small i l = ⊎-elim (λ (e : i ≡ n). rw (le-ltb i n (omega arith)) h) (λ (g : i < n). rw (lt-ltb i n g) (S .numbers .small i g)) (eq-or-lt-of-le l)
-
-      go : (i j : ℕ) → i < j → (j ≡ n) ⊎ (j < n) → getD (m .number) i 0 ≡ f j → (p : ℕ) × (p < n) × (getD (m .number) p 0 ≡ k)
-      go i j l (inl e) s = (i, omega arith, s ∙ rw (le-ltb j n (omega arith)))
-      go i j l (inr g) s = absurd (S .numbers .apart i j l g (s ∙ below j g))
-
   -- an atom has an address: the lower end of its place
   pub atom-has : (k : ℕ) → k < m .atoms → (a : ℕ) × InAtom m k a
   atom-has k h =
-      let r = place-of k h in
-      (getD (m .cut) (r .0) 0, record { place = r .0; holds = record { within = r .1; from = omega arith; below = S .cuts .up (r .0) (r .0 + 1) (omega arith) (omega (arith, r .1)) }; number = r .2 })
+      let r = has-place (S .numbers) k h in
+      (getD (m .cut) (r .0) 0, record { place = r .0; holds = lower-holds (S .cuts) (r .0) (r .1); number = r .2 })
 
 -- ---- after any records
 
@@ -109,13 +87,13 @@ module _ (m : State) (c : Came m) where
   numbered k = (atom-has m (sound m c) k, λ x. let y = x .1 in omega (arith, y .number, sound m c .numbers .small (y .place) (y .holds .within)))
 
   pub one-number : (p q : ℕ) → p < m .atoms → q < m .atoms → getD (m .number) p 0 ≡ getD (m .number) q 0 → p ≡ q
-  one-number p q hp hq e = one-place m (sound m c .numbers) 0 q hq p hp e
+  one-number = one-place (sound m c .numbers)
 
   -- the winner at each node is the same for all addresses of an atom
   pub winner-constant : (v k a b : ℕ) → InAtom m k a → InAtom m k b → winner m v a ≡ winner m v b
   winner-constant v k a b x y =
       let S = sound m c in
-      winners-from m S v k a x ∙ ap (λ (p : ℕ). winner m v (getD (m .cut) p 0)) (sym (places-agree m S k a b x y)) ∙ sym (winners-from m S v k b y)
+      constant-in m S v (x .place) a (x .holds) ∙ ap (λ (p : ℕ). winner m v (getD (m .cut) p 0)) (sym (places-agree m S k a b x y)) ∙ sym (constant-in m S v (y .place) b (y .holds))
 
   -- THE LAW OF LABELS: atom k is on link l exactly when for each of its addresses the winner at l's source names l
   pub on-link : (l k : ℕ) → k < m .atoms → (isOn m l k ≡ true) ↔ ((a : ℕ) → InAtom m k a → nextAt m a (sourceOf m l) ≡ some l)
@@ -134,15 +112,7 @@ module _ (m : State) (c : Came m) where
 
   -- what is no atom is on no link
   pub no-atom : (l k : ℕ) → m .atoms ≤ k → isOn m l k ≡ false
-  unfolding isOn
-  no-atom l k h = go _ refl
-    where
-      go : (t : Bool) → isOn m l k ≡ t → t ≡ false
-      go false e = refl
-      go true e =
-          let r = any-some _ (m .atoms) e in
-          let q : getD (m .number) (r .0) 0 ≡ k = eqb-true _ _ (and-both _ _ (r .2) .0) in
-          absurd (omega (arith, q, sound m c .numbers .small (r .0) (r .1)))
+  no-atom = on-without m (sound m c .numbers)
 
   -- the same of the labels' words: bit k of link l's eight words
   pub on-words : (l k : ℕ) → l < 64 → k < m .atoms → (on (labelsOf m) l k ≡ true) ↔ ((a : ℕ) → InAtom m k a → nextAt m a (sourceOf m l) ≡ some l)

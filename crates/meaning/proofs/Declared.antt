@@ -1,17 +1,15 @@
 -- The hall and the links after any records are those that the accepted hall and link records declared. Assumes nothing.
 use mathlib.Core.Path.{_≡_, refl, sym, ap, _∙_}
 use mathlib.Core.Logic.{_↔_, _⊎_, inl, inr, ⊎-elim}
-use mathlib.Core.Bool.{not, _&&_}
 use mathlib.Core.Option.{none}
 use mathlib.Core.List.{List}
 use Prim.Native.Nat.{ℕ, _+_, _*_, _/_, _%_, _≤_, _<_}
 use native.Mathlib.Nat.{not-suc-le-zero}
 use native.Mathlib.Decide.{ℕ-discrete}
 use native.Mathlib.Omega.{arith}
-use lib.Dec.{ltb, eqb}
 use lib.ListN.{getD, set}
 use lib.Seq.{getD-set-same, getD-set-other}
-use borrow.Author.Tests.{ltb-false, leb-false, eqb-true, not-false}
+use borrow.Author.Tests.{eqb-true, not-false}
 use Rattle.meaning.specs.declared.Answer.{Answer}
 use Rattle.meaning.specs.declared.Answer.the-variants.{Ok}
 use Rattle.meaning.specs.declared.Record.{Record}
@@ -23,8 +21,8 @@ use Rattle.meaning.specs.Records.{recordOf, phaseOf}
 use Rattle.meaning.specs.Step.{Done, refusal, withRule, inserted, withNodes, withLink, closed, leaves, turnedBy, only, answers, accepted, stepOf}
 use Rattle.meaning.specs.Run.{Came, start, more}
 use Rattle.meaning.proofs.Words.{Fits, fits}
-use Rattle.meaning.proofs.Sound.{when-none, or-false}
-use Rattle.meaning.proofs.Kept.{sound}
+use Rattle.meaning.proofs.Sound.{when-none}
+use Rattle.meaning.proofs.Kept.{ClearLink, clear-link, sound}
 use Rattle.meaning.proofs.Demands.{refusedBy, then, Takes, HasNodes, HasLink}
 use Rattle.meaning.proofs.Taking.{Unmoved, both-step, Took, accepts}
 
@@ -135,13 +133,8 @@ module _ (m : State) (c : Came m) (room : ℕ) (s : List ℕ) (a k e : ℕ) (T :
   words-left : then m room s .link ≡ set (m .link) (m .links) word
   words-left = rw (left-is m room s (link a k e) T) (unfold leaves withLink in refl)
 
-  fewer : m .links < 64
-  unfolding refusal
-  fewer = leb-false 64 (m .links) (when-none _ _ _ (passes m room s (link a k e) T) .0)
-
-  code : k ≤ 2
-  unfolding refusal
-  code = ltb-false 2 k (or-false (ltb 2 k) (eqb k 2 && not (eqb e 0)) (when-none _ _ _ (when-none _ _ _ (when-none _ _ _ (passes m room s (link a k e) T) .1) .1) .0) .0)
+  fine : ClearLink m a k e
+  fine = clear-link m a k e (passes m room s (link a k e) T)
 
   small : e < 256
   unfolding Fits
@@ -149,15 +142,15 @@ module _ (m : State) (c : Came m) (room : ℕ) (s : List ℕ) (a k e : ℕ) (T :
 
   at-new : getD (then m room s .link) (m .links) 0 ≡ a * 1024 + (k * 256 + e)
   unfolding linkWord
-  at-new = rw words-left (getD-set-same (m .link) (m .links) word 0 (omega (arith, fewer, sound m c .long)))
+  at-new = rw words-left (getD-set-same (m .link) (m .links) word 0 (omega (arith, fine .room, sound m c .long)))
 
   new-source : sourceOf (then m room s) (m .links) ≡ a
   unfolding sourceOf
-  new-source = rw at-new (omega (arith, code, small))
+  new-source = rw at-new (omega (arith, fine .code, small))
 
   new-end : endOf (then m room s) (m .links) ≡ k * 256 + e
   unfolding endOf
-  new-end = rw at-new (omega (arith, code, small))
+  new-end = rw at-new (omega (arith, fine .code, small))
 
   old-word : (l : ℕ) → l < m .links → getD (then m room s .link) l 0 ≡ getD (m .link) l 0
   old-word l h = rw words-left (getD-set-other (m .link) (m .links) l word 0 (λ q. omega arith))

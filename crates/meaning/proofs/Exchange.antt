@@ -1,32 +1,32 @@
 -- An accepted insert followed at once by its own removal gives two lists over the same ranges, old and new link exchanged.
 -- And a walk that comes to a node comes to it in fewer moves than there are nodes. Assumes nothing.
-use mathlib.Core.Path.{_≡_, refl, sym, ap, ap₂, _∙_, subst}
+use mathlib.Core.Path.{_≡_, refl, sym, ap, ap₂, _∙_}
 use mathlib.Core.Logic.{_↔_}
-use mathlib.Core.Bool.{Bool, true, false, not, _&&_, _||_, true≢false}
+use mathlib.Core.Bool.{Bool, true, not, _&&_}
 use mathlib.Core.Option.{Option, none, some}
-use mathlib.Core.List.{List, [], _∷_, _++_}
-use Prim.Native.Nat.{ℕ, zero, suc, _+_, _-_, _*_, _/_, _%_, _^_, _≤_, _<_}
+use mathlib.Core.List.{List, [], _∷_}
+use Prim.Native.Nat.{ℕ, zero, suc, _+_, _-_, _/_, _<_}
 use native.Mathlib.Decide.{ℕ-discrete, decLt}
 use native.Mathlib.Omega.{arith}
-use lib.Dec.{leb, ltb, eqb}
-use lib.ListN.{length, getD, set}
+use lib.Dec.{ltb, eqb}
+use lib.ListN.{getD, set}
 use lib.Seq.{set-set, set-getD, getD-set-same}
-use borrow.Author.Tests.{eqb-true, eqb-false, eq-eqb, ne-eqb, not-false, not-true}
+use borrow.Author.Tests.{eq-eqb, ne-eqb}
 use Rattle.meaning.specs.Search.{pick, anyBelow}
 use Rattle.meaning.specs.Hall.{State, sourceOf}
 use Rattle.meaning.specs.Rule.{ruleWord, live, linkOf, rank, covers}
-use Rattle.meaning.specs.Winner.{better, best, ruleAt, eligible, winner, linkFor, nextAt}
+use Rattle.meaning.specs.Winner.{best, ruleAt, eligible, winner, linkFor, nextAt}
 use Rattle.meaning.specs.Atoms.{withCut}
 use Rattle.meaning.specs.Changes.{linkOrNone, changedAt, changedPlaces, entryAt}
-use Rattle.meaning.specs.declared.Record.{Record}
 use Rattle.meaning.specs.declared.Record.the-variants.{Insert as insert, Remove as remove}
-use Rattle.meaning.specs.Step.{refusal, withRule, inserted, listed, changes}
-use Rattle.meaning.proofs.Words.{Sized, link-of}
+use Rattle.meaning.specs.Step.{withRule, inserted, listed, changes}
+use Rattle.meaning.proofs.Words.{Sized, link-of, free-zero}
 use Rattle.meaning.proofs.Sound.{Sound}
-use Rattle.meaning.proofs.Kept.{Clear, clear}
-use Rattle.meaning.specs.Walk.{Place, at, after, standsAt, comesTo}
+use Rattle.meaning.proofs.Lists.{places-same}
+use Rattle.meaning.proofs.Kept.{Clear}
+use Rattle.meaning.specs.Walk.{at, after, standsAt, comesTo}
 use Rattle.meaning.proofs.Members.{any-true, any-some}
-use Rattle.meaning.proofs.Walks.{Going, Closed, Reaches, going-le, again, meets}
+use Rattle.meaning.proofs.Walks.{Closed, Reaches, going-le, again, meets}
 use Rattle.meaning.proofs.Means.{stands-at, at-stands}
 
 pub eqb-comm : (a b : ℕ) → eqb a b ≡ eqb b a
@@ -57,13 +57,9 @@ module _ (m : State) (S : Sound m) (r l p n t : ℕ) (F : Sized l p t) (C : Clea
   abbrev pub back : State
   back = withRule there r 0
 
-  free-zero : getD (m .rule) r 0 ≡ 0
-  unfolding live ruleAt
-  free-zero = eqb-true _ 0 (not-false _ (C .free))
-
   pub rules-back : back .rule ≡ m .rule
-  unfolding withRule inserted withCut
-  rules-back = set-set (m .rule) r w 0 ∙ ap (set (m .rule) r) (sym free-zero) ∙ set-getD (m .rule) r 0
+  unfolding withRule inserted withCut ruleAt
+  rules-back = set-set (m .rule) r w 0 ∙ ap (set (m .rule) r) (sym (free-zero _ (C .free))) ∙ set-getD (m .rule) r 0
 
   pub links-back : back .link ≡ m .link
   unfolding withRule inserted withCut
@@ -74,11 +70,6 @@ module _ (m : State) (S : Sound m) (r l p n t : ℕ) (F : Sized l p t) (C : Clea
   same-change v q =
       let c = getD (back .cut) q 0 in
       ap not (ap (eqb (winner there v c)) (winner-same back m rules-back links-back v c) ∙ eqb-comm (winner there v c) (winner m v c))
-
-  same-places : (v k : ℕ) → changedPlaces there back v k ≡ changedPlaces m there v k
-  unfolding changedPlaces
-  same-places v zero = refl
-  same-places v (suc k) = rw (same-places v k, same-change v k)
 
   rule-there : ruleAt there r ≡ w
   unfolding ruleAt inserted withRule withCut
@@ -92,7 +83,7 @@ module _ (m : State) (S : Sound m) (r l p n t : ℕ) (F : Sized l p t) (C : Clea
   -- THE LAW: the same places
   pub exchanged : changes there (remove r) ≡ changes m (insert r l p n t)
   unfolding changes listed
-  exchanged = ap (λ (v : ℕ). changedPlaces there back v (back .atoms)) node-there ∙ same-places (sourceOf m l) _ ∙ (unfold withRule in refl)
+  exchanged = ap (λ (v : ℕ). changedPlaces there back v (back .atoms)) node-there ∙ places-same there back m there (sourceOf m l) (same-change (sourceOf m l)) _ ∙ (unfold withRule in refl)
 
   -- with the same atom and ends, and the links exchanged
   pub exchanged-entry : (v q : ℕ) → entryAt there back v q

@@ -1,6 +1,6 @@
 -- Where no rule is live there is no winner, so that every label and every owner is 0. Assumes nothing.
 use mathlib.Core.Path.{_≡_, refl, sym, _∙_}
-use mathlib.Core.Bool.{Bool, true, false, _&&_}
+use mathlib.Core.Bool.{Bool, false, and-false}
 use mathlib.Core.Option.{Option, none, some}
 use Prim.Native.Nat.{ℕ, zero, suc, _+_, _*_, _/_, _%_, _<_}
 use native.Mathlib.Omega.{arith}
@@ -47,11 +47,7 @@ module _ (m : State) (idle : (i : ℕ) → live (ruleAt m i) ≡ false) where
   pub labels-idle : labelsOf m ≡ zeroes 512
   unfolding labelsOf isOn names
   labels-idle =
-      table-off 512 _ (λ i. word-off 64 _ (λ j. any-off _ (m .atoms) (λ p h. rw idle-next (off (eqb (getD (m .number) p 0) (64 * (i % 8) + j))))))
-    where
-      off : (b : Bool) → (b && false) ≡ false
-      off true = refl
-      off false = refl
+      table-off 512 _ (λ i. word-off 64 _ (λ j. any-off _ (m .atoms) (λ p h. rw idle-next (and-false (eqb (getD (m .number) p 0) (64 * (i % 8) + j))))))
 
   pub owners-idle : ownersOf m ≡ zeroes 8192
   unfolding ownersOf ownerAt ownerWord

@@ -1,7 +1,7 @@
 -- Check 13 counts what the document counts: the inner boundaries that would exist. Assumes nothing.
 use mathlib.Core.Path.{_≡_, refl, sym, ap, _∙_}
 use mathlib.Core.Logic.{⊎-elim}
-use mathlib.Core.Bool.{Bool, true, false, not, _&&_, _||_, true≢false}
+use mathlib.Core.Bool.{Bool, true, false, not, _&&_, _||_, true≢false, or-false}
 use mathlib.Core.List.{List}
 use Prim.Native.Nat.{ℕ, zero, suc, _+_, _-_, _^_, _≤_, _<_}
 use native.Mathlib.Nat.{add-zero, add-suc}
@@ -16,7 +16,7 @@ use Rattle.meaning.specs.Rule.{lower, upper}
 use Rattle.meaning.specs.Atoms.{isCut}
 use Rattle.meaning.specs.Step.{added}
 use Rattle.meaning.proofs.Tables.{Cuts}
-use Rattle.meaning.proofs.Places.{le-or-lt, Order, less, same, more, order, cut-le}
+use Rattle.meaning.proofs.Places.{le-or-lt, Order, less, same, more, order, beside}
 use Rattle.meaning.proofs.Parted.{is-boundary, boundary-is}
 use Rattle.meaning.proofs.Below.{count-same, count-front}
 use Rattle.meaning.proofs.Demands.{innerWith}
@@ -63,9 +63,7 @@ module _ {top : ℕ} {cut : List ℕ} {n : ℕ} (W : Cuts top cut n) where
       go : (t : Bool) → isCut cut n b ≡ t → t ≡ false
       go false e = refl
       go true e =
-          let x = is-boundary cut n b e in
-          ⊎-elim (λ (l : x .place ≤ p). absurd (omega (arith, x .is, cut-le W (x .place) p l (omega arith))))
-          (λ (l : p < x .place). absurd (omega (arith, x .is, cut-le W (suc p) (x .place) l (x .within)))) (le-or-lt (x .place) p)
+          ⊎-elim (λ (l : b ≤ getD cut p 0). absurd (omega arith)) (λ (l : b < b). absurd (omega arith)) (beside W p b b h k (is-boundary cut n b e))
 
   is-one : (p : ℕ) → p ≤ n → isCut cut n (getD cut p 0) ≡ true
   is-one p h = boundary-is W (getD cut p 0) (record { place = p; within = h; is = refl })
@@ -110,16 +108,12 @@ module _ {t : ℕ} {cut : List ℕ} {n : ℕ} (W : Cuts (suc t) cut n) (p q : �
   count-with =
       let F : ℕ → Bool = λ b. C b || eqb b p || eqb b q in
       let at-zero : F 0 ≡ true = rw zero-one in
-      let apart : (C q || eqb q p) ≡ C q = rw (ne-eqb q p (λ e. omega arith)) (plain (C q)) in
+      let apart : (C q || eqb q p) ≡ C q = rw (ne-eqb q p (λ e. omega arith)) (or-false (C q)) in
       let one = count-inner F t in
       let two = count-or (λ b. C b || eqb b p) q (suc t) in
       let three = count-or C p (suc t) in
       let four : _≡_ {A = ℕ} (pick (ltb q (suc t) && not (C q || eqb q p)) 1 0) (pick (C q) 0 1) = rw apart (counts q within (C q) refl) in
       omega (arith, rw at-zero at one, two, three, count-all W, four, counts p (omega arith) (C p) refl)
-    where
-      plain : (f : Bool) → (f || false) ≡ f
-      plain true = refl
-      plain false = refl
 
 -- THE LAW: one fewer than the atoms and what a rule adds, which check 13 looks at
 pub inner-count : (m : State) → Cuts top (m .cut) (m .atoms) → (w p n : ℕ) → lower w ≡ p → upper w ≡ p + 2 ^ (32 - n) → upper w ≤ top → innerWith m p n + 1 ≡ m .atoms + added m w

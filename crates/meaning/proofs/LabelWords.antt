@@ -75,26 +75,25 @@ module _ (label : List ℕ) (l k m j : ℕ) (size : length label ≡ 512) (hl : 
   w : ℕ
   w = getD label (place l k) 0
 
+  -- the word of (l, k) becomes x, of which each bit is had by g from the old one and whether it is k's
+  on-set : (x : ℕ) (g : Bool → Bool → Bool) → ((b : Bool) → g b false ≡ b) → ((i : ℕ) → i < 64 → eqb (bit x i) 1 ≡ g (eqb (bit w i) 1) (eqb (k % 64) i))
+      → on (set label (place l k) x) m j ≡ g (on label m j) (same l k m j)
+  unfolding w
+  on-set x g off bits = go (ℕ-discrete (place m j) (place l k))
+    where
+      go : Dec (place m j ≡ place l k) → on (set label (place l k) x) m j ≡ g (on label m j) (same l k m j)
+      go (yes e) =
+          rw (e, getD-set-same label (place l k) x 0 (omega arith))
+          (bits (j % 64) (mod-lt j (zero-lt-suc 63)) ∙ ap (g (eqb (bit w (j % 64)) 1)) (in-word l k m j hk hj e))
+      go (no n) = rw (getD-set-other label (place l k) (place m j) x 0 n, apart l k m j n) (sym (off (on label m j)))
+
   pub on-with : on (set label (8 * l + k / 64) (bitOr (getD label (8 * l + k / 64) 0) (2 ^ (k % 64)))) m j ≡ on label m j || (eqb m l && eqb j k)
   unfolding w
-  on-with = go (ℕ-discrete (place m j) (place l k))
-    where
-      go : Dec (place m j ≡ place l k) → on (set label (place l k) (bitOr w (2 ^ (k % 64)))) m j ≡ on label m j || same l k m j
-      go (yes e) =
-          rw (e, getD-set-same label (place l k) (bitOr w (2 ^ (k % 64))) 0 (omega arith))
-          (set-bit w (k % 64) (j % 64) ∙ ap (λ (b : Bool). eqb (bit w (j % 64)) 1 || b) (in-word l k m j hk hj e))
-      go (no n) = rw (getD-set-other label (place l k) (place m j) _ 0 n, apart l k m j n) (sym (or-false (on label m j)))
+  on-with = on-set (bitOr w (2 ^ (k % 64))) _||_ or-false (λ i h. set-bit w (k % 64) i)
 
   pub on-without : on (set label (8 * l + k / 64) (bitAnd (getD label (8 * l + k / 64) 0) (2 ^ 64 - 1 - 2 ^ (k % 64)))) m j ≡ on label m j && not (eqb m l && eqb j k)
   unfolding w
-  on-without = go (ℕ-discrete (place m j) (place l k))
-    where
-      go : Dec (place m j ≡ place l k) → on (set label (place l k) (bitAnd w (2 ^ 64 - 1 - 2 ^ (k % 64)))) m j ≡ on label m j && not (same l k m j)
-      go (yes e) =
-          rw (e, getD-set-same label (place l k) (bitAnd w (2 ^ 64 - 1 - 2 ^ (k % 64))) 0 (omega arith))
-          (clear-bit w (k % 64) (j % 64) (mod-lt k (zero-lt-suc 63)) (mod-lt j (zero-lt-suc 63))
-          ∙ ap (λ (b : Bool). eqb (bit w (j % 64)) 1 && not b) (in-word l k m j hk hj e))
-      go (no n) = rw (getD-set-other label (place l k) (place m j) _ 0 n, apart l k m j n) (sym (and-true (on label m j)))
+  on-without = on-set (bitAnd w (2 ^ 64 - 1 - 2 ^ (k % 64))) (λ b t. b && not t) and-true (λ i. clear-bit w (k % 64) i (mod-lt k (zero-lt-suc 63)))
 
 -- ---- how many ones a word has
 

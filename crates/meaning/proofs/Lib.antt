@@ -15,6 +15,7 @@ pub mod Updates
 pub mod Lists
 pub mod Spread
 pub mod Undone
+pub mod Moves
 pub mod Fates
 pub mod Asked
 pub mod Twins

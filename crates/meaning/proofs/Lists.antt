@@ -32,6 +32,12 @@ module _ (old new : State) (v : ℕ) where
         λ h. ⊎-elim (λ (q : p ≡ n). absurd (true≢false (sym (h .1) ∙ ap (changedAt old new v) q ∙ e))) (λ (g : p < n). Memᴰ·append-left _ (f .1 (g, h .1))) (eq-or-lt-of-le (le-of-suc-le-suc (h .0))),
       )
 
+-- states that differ at the same places have the same changed places
+pub places-same : (m n o p : State) (v : ℕ) → ((q : ℕ) → changedAt m n v q ≡ changedAt o p v q) → (k : ℕ) → changedPlaces m n v k ≡ changedPlaces o p v k
+unfolding changedPlaces
+places-same m n o p v h zero = refl
+places-same m n o p v h (suc k) = rw (places-same m n o p v h k, h k)
+
 -- the numbers of a list rise
 abbrev pub Rises : List ℕ → Type 0
 Rises ps = (i j : ℕ) → i < j → j < length ps → getD ps i 0 < getD ps j 0

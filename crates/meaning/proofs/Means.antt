@@ -1,39 +1,43 @@
 -- What the definitions mean, of a sound state: the winner, the walk's end, the circle, the way to a node. Assumes nothing.
-use mathlib.Core.Path.{_≡_, refl, sym, ap, ap₂, _∙_, subst}
-use mathlib.Core.Logic.{_↔_, _⊎_, inl, inr, ⊎-elim}
-use mathlib.Core.Bool.{Bool, true, false, not, _&&_, _||_, true≢false}
+use mathlib.Core.Path.{_≡_, refl, sym, ap, ap₂, _∙_}
+use mathlib.Core.Logic.{_↔_, _⊎_, inl, inr}
+use mathlib.Core.Bool.{Bool, true, false, _&&_, true≢false}
 use mathlib.Core.Option.{Option, none, some}
-use Prim.Native.Nat.{ℕ, zero, suc, _+_, _-_, _≤_, _<_}
-use native.Mathlib.Nat.{not-suc-le-zero}
-use native.Mathlib.Decide.{ℕ-discrete}
+use Prim.Native.Nat.{ℕ, zero, suc, _+_, _-_, _<_}
 use native.Mathlib.Omega.{arith}
-use lib.Dec.{leb, ltb, eqb}
-use lib.ListN.{getD}
-use borrow.Author.Tests.{ltb-true, ltb-false, leb-true, eqb-true, eq-eqb, lt-ltb}
+use lib.Dec.{leb, ltb}
+use borrow.Author.Tests.{ltb-true, leb-true, eqb-true, eq-eqb, lt-ltb}
 use Rattle.meaning.specs.declared.Fate.{Fate}
-use Rattle.meaning.specs.Search.{pick, orElse, anyBelow, lowestBelow, countBelow}
-use Rattle.meaning.specs.Hall.{top, State, sourceOf, endOf}
+use Rattle.meaning.specs.Search.{pick, anyBelow, countBelow}
+use Rattle.meaning.specs.Hall.{State, sourceOf, endOf}
 use Rattle.meaning.specs.Rule.{live, linkOf, rank, lower, upper, covers, overlap}
-use Rattle.meaning.specs.Winner.{better, best, ruleAt, eligible, winner, linkFor, nextAt}
-use Rattle.meaning.specs.Walk.{Place, at, out, lost, arrive, leave, move, after, stands, standsAt, goesRound, onCircle, comesTo, fateIn}
-use Rattle.meaning.specs.Questions.{fateOf, loopsAt, circleAt, reachesAt, isOut, isLost, isRound}
-use Rattle.meaning.proofs.Ranks.{Wins, Distinct, winner-law, wins-once}
+use Rattle.meaning.specs.Winner.{ruleAt, eligible, winner, linkFor, nextAt}
+use Rattle.meaning.specs.Walk.{Place, at, out, lost, after, stands, standsAt, goesRound, onCircle}
+use Rattle.meaning.specs.Questions.{fateOf, loopsAt, circleAt, isOut, isLost, isRound}
+use Rattle.meaning.proofs.Ranks.{Wins, Distinct, wins-once, winner-law}
 use Rattle.meaning.proofs.Members.{any-true, any-some, and-both}
-use Rattle.meaning.proofs.Walks.{Going, Never, Closed, Reaches, OnCircle, IsFate, never, fate-is, one-fate, meets, below}
-use Rattle.meaning.proofs.Circles.{never-circle, circle-short, circle-never}
+use Rattle.meaning.proofs.Moves.{goes-to}
+use Rattle.meaning.proofs.Walks.{Going, Never, Closed, OnCircle, IsFate, never, fate-is}
+use Rattle.meaning.proofs.Circles.{never-circle, circle-short}
 use Rattle.meaning.proofs.Sound.{Sound}
+use Rattle.meaning.proofs.Searches.{lowest-none}
 
 -- ---- the winner
 
-module _ (m : State) (S : Sound m) (v a : ℕ) where
-  both-cover : (x y : ℕ) → covers x a ≡ true → covers y a ≡ true → overlap x y ≡ true
-  unfolding covers overlap
-  both-cover x y p q =
-      let b = and-both (leb (lower x) a) (ltb a (upper x)) p in
-      let c = and-both (leb (lower y) a) (ltb a (upper y)) q in
-      ap₂ _&&_ (lt-ltb (lower x) (upper y) (omega (arith, leb-true (lower x) a (b .0), ltb-true a (upper y) (c .1))))
-      (lt-ltb (lower y) (upper x) (omega (arith, leb-true (lower y) a (c .0), ltb-true a (upper x) (b .1))))
+-- rules that cover one address overlap
+pub both-cover : (x y a : ℕ) → covers x a ≡ true → covers y a ≡ true → overlap x y ≡ true
+unfolding covers overlap
+both-cover x y a p q =
+    let b = and-both (leb (lower x) a) (ltb a (upper x)) p in
+    let c = and-both (leb (lower y) a) (ltb a (upper y)) q in
+    ap₂ _&&_ (lt-ltb (lower x) (upper y) (omega (arith, leb-true (lower x) a (b .0), ltb-true a (upper y) (c .1))))
+    (lt-ltb (lower y) (upper x) (omega (arith, leb-true (lower y) a (c .0), ltb-true a (upper x) (b .1))))
 
+-- w is the one eligible rule of the highest rank, or 256 where no rule is eligible
+abbrev pub Winner : State → ℕ → ℕ → ℕ → Type 0
+Winner m v a w = ((w ≡ 256) × ((i : ℕ) → i < 256 → eligible m v a i ≡ true → ⊥)) ⊎ Wins (eligible m v a) (λ i. rank (ruleAt m i)) 256 w
+
+module _ (m : State) (S : Sound m) (v a : ℕ) where
   pub record Fit (i : ℕ) : Type 0 where
     pub alive : live (ruleAt m i) ≡ true
     pub here : sourceOf m (linkOf (ruleAt m i)) ≡ v
@@ -47,20 +51,29 @@ module _ (m : State) (S : Sound m) (v a : ℕ) where
   ranks i j hi hj p q e =
       let x = fit i p in
       let y = fit j q in
-      S .distinct i j hi hj (x .alive) (y .alive) (x .here ∙ sym (y .here)) e (both-cover _ _ (x .over) (y .over))
+      S .distinct i j hi hj (x .alive) (y .alive) (x .here ∙ sym (y .here)) e (both-cover _ _ a (x .over) (y .over))
 
-  -- THE LAW: no rule is eligible, or the winner is the one eligible rule that outranks every other
-  pub wins : ((winner m v a ≡ 256) × ((i : ℕ) → i < 256 → eligible m v a i ≡ true → ⊥)) ⊎ Wins (eligible m v a) (λ i. rank (ruleAt m i)) 256 (winner m v a)
+  -- THE LAW: the winner is such a number
+  pub wins : Winner m v a (winner m v a)
   unfolding winner
   wins = winner-law (eligible m v a) (λ i. rank (ruleAt m i)) 256 (omega arith) ranks
+
+  -- and no other number is
+  pub winner-only : (w : ℕ) → Winner m v a w → winner m v a ≡ w
+  winner-only w = go wins
+    where
+      go : Winner m v a (winner m v a) → Winner m v a w → winner m v a ≡ w
+      go (inl x) (inl y) = x .0 ∙ sym (y .0)
+      go (inl x) (inr y) = absurd (x .1 w (y .within) (y .fits))
+      go (inr x) (inl y) = absurd (y .1 (winner m v a) (x .within) (x .fits))
+      go (inr x) (inr y) = wins-once _ _ 256 (winner m v a) w x y
 
   -- a link that a packet takes is declared
   pub taken-link : (l : ℕ) → nextAt m a v ≡ some l → l < m .links
   unfolding nextAt linkFor
   taken-link l e = go wins (ltb (winner m v a) 256) refl e
     where
-      go : ((winner m v a ≡ 256) × ((i : ℕ) → i < 256 → eligible m v a i ≡ true → ⊥)) ⊎ Wins (eligible m v a) (λ i. rank (ruleAt m i)) 256 (winner m v a)
-          → (t : Bool) → ltb (winner m v a) 256 ≡ t → pick t (some (linkOf (ruleAt m (winner m v a)))) none ≡ some l → l < m .links
+      go : Winner m v a (winner m v a) → (t : Bool) → ltb (winner m v a) 256 ≡ t → pick t (some (linkOf (ruleAt m (winner m v a)))) none ≡ some l → l < m .links
       go x false p f = let z : _≡_ {A = ℕ} 0 1 = cc in absurd (omega arith)
       go (inl x) true p f = absurd (omega (arith, x .0, ltb-true (winner m v a) 256 p))
       go (inr x) true p f =
@@ -71,17 +84,9 @@ module _ (m : State) (S : Sound m) (v a : ℕ) where
 
 module _ (m : State) (S : Sound m) (a : ℕ) where
   pub closed-in : Closed (nextAt m a) (endOf m) (m .nodes)
-  unfolding move leave arrive
-  closed-in v w h e = go (nextAt m a v) refl e
-    where
-      arrived : (l x : ℕ) → l < m .links → endOf m l ≡ x → (p q : Bool) → ltb x 256 ≡ p → pick p (at x) (pick q (out l) (lost v)) ≡ at w → w < m .nodes
-      arrived l x hl f true q g e = let z : x ≡ w = cc in let k = ltb-true x 256 g in omega (arith, S .ends l hl (omega arith))
-      arrived l x hl f false true g e = let z : _≡_ {A = ℕ} 0 1 = cc in absurd (omega arith)
-      arrived l x hl f false false g e = let z : _≡_ {A = ℕ} 0 1 = cc in absurd (omega arith)
-
-      go : (o : Option ℕ) → nextAt m a v ≡ o → leave (endOf m) v o ≡ at w → w < m .nodes
-      go none f e = let z : _≡_ {A = ℕ} 0 1 = cc in absurd (omega arith)
-      go (some l) f e = arrived l (endOf m l) (taken-link m S v a l f) refl (ltb (endOf m l) 256) (ltb (endOf m l) 512) refl e
+  closed-in v w h e =
+      let g = goes-to (nextAt m a) (endOf m) v w .0 e in
+      omega (arith, g .2, S .ends (g .0) (taken-link m S v a (g .0) (g .1)) (omega (arith, g .2, g .3)))
 
 -- ---- a place's tests
 
@@ -123,18 +128,6 @@ module _ (next : ℕ → Option ℕ) (end : ℕ → ℕ) (n : ℕ) (closed : Clo
           let s : suc (q .0 - 1) ≡ q .0 = omega (arith, q .1) in
           any-true P n (q .0 - 1) (omega (arith, q .1, q .2)) (at-stands v _ (ap (λ (k : ℕ). after next end k (at v)) s ∙ q .3))
 
--- the lowest below n
-lowest-some : (P : ℕ → Bool) (n i : ℕ) → i < n → P i ≡ true → lowestBelow n P ≡ none → ⊥
-unfolding lowestBelow
-lowest-some P zero i l e f = not-suc-le-zero l
-lowest-some P (suc n) i l e f = go (lowestBelow n P) refl (P n) refl f (λ k. lowest-some P n i k e) (ℕ-discrete i n)
-  where
-    go : (o : Option ℕ) → lowestBelow n P ≡ o → (t : Bool) → P n ≡ t → orElse o (pick t (some n) none) ≡ none → (i < n → lowestBelow n P ≡ none → ⊥) → Dec (i ≡ n) → ⊥
-    go (some x) p t q f ih d = let z : _≡_ {A = ℕ} 0 1 = cc in omega arith
-    go none p true q f ih d = let z : _≡_ {A = ℕ} 0 1 = cc in omega arith
-    go none p false q f ih (yes d) = true≢false (sym e ∙ ap P d ∙ q)
-    go none p false q f ih (no d) = ih (omega arith) p
-
 module _ (m : State) (S : Sound m) (a : ℕ) where
   -- where some node's walk goes round, a node lies on a circle: the answer to a found loop always names a node
   pub loop-circle : loopsAt m a ≡ true → circleAt m a ≡ none → ⊥
@@ -144,8 +137,8 @@ module _ (m : State) (S : Sound m) (a : ℕ) where
       let c = closed-in m S a in
       let g = round-is (nextAt m a) (endOf m) (m .nodes) c (r .0) (r .1) .0 (r .2) in
       let q = never-circle (nextAt m a) (endOf m) (m .nodes) c (r .0) (r .1) g in
-      lowest-some (onCircle (nextAt m a) (endOf m) (m .nodes)) (m .nodes) (q .0) (q .1)
-      (circle-is (nextAt m a) (endOf m) (m .nodes) c (q .0) (q .1) .1 (q .3)) f
+      lowest-none (onCircle (nextAt m a) (endOf m) (m .nodes)) (m .nodes) .0 f (q .0) (q .1)
+      (circle-is (nextAt m a) (endOf m) (m .nodes) c (q .0) (q .1) .1 (q .3))
 
   -- the fate is the fate
   pub fate-of : (v : ℕ) → v < m .nodes → IsFate (nextAt m a) (endOf m) v (fateOf m v a)

@@ -1,16 +1,14 @@
 -- The words of the labels are their members. Assumes nothing.
-use mathlib.Core.Bool.{Bool, true, false, _&&_, _||_, true≢false}
-use mathlib.Core.List.{List, [], _∷_}
-use mathlib.Core.Logic.{_↔_}
-use mathlib.Core.Option.{Option, none, some}
-use mathlib.Core.Path.{_≡_, refl, sym, ap, ap₂, _∙_, subst}
-use Prim.Native.Nat.{ℕ, zero, suc, _+_, _-_, _*_, _/_, _%_, _^_, _≤_, _<_}
+use mathlib.Core.Bool.{Bool, true, false, _&&_, _||_, true≢false, or-true}
+use mathlib.Core.List.{List}
+use mathlib.Core.Logic.{_⊎_, inl, inr}
+use mathlib.Core.Path.{_≡_, refl, sym, ap, ap₂, _∙_}
+use Prim.Native.Nat.{ℕ, zero, suc, _+_, _-_, _*_, _/_, _%_, _^_, _<_}
 use native.Mathlib.Nat.{not-suc-le-zero, pow-suc, pow-succ', div-one, div-div-eq-div-mul, mod-lt, zero-lt-suc, add-zero}
 use native.Mathlib.Decide.{ℕ-discrete}
 use native.Mathlib.Numerals.{add-one}
 use native.Mathlib.Omega.{arith}
 use lib.Dec.{eqb}
-use lib.Pow.{pow-pos, pow-lt}
 use lib.ListN.{length, getD}
 use borrow.Author.Tests.{eqb-true, eq-eqb, ne-eqb}
 use Rattle.meaning.specs.Search.{pick, anyBelow, tabulate}
@@ -88,12 +86,8 @@ unfolding anyBelow
 any-true P zero i l e = absurd (not-suc-le-zero l)
 any-true P (suc n) i l e = go (any-true P n i) (ℕ-discrete i n)
   where
-    right : (b : Bool) → (b || true) ≡ true
-    right true = refl
-    right false = refl
-
     go : (i < n → P i ≡ true → anyBelow n P ≡ true) → Dec (i ≡ n) → (anyBelow n P || P n) ≡ true
-    go f (yes q) = ap (λ (b : Bool). anyBelow n P || b) (sym (ap P q) ∙ e) ∙ right (anyBelow n P)
+    go f (yes q) = ap (λ (b : Bool). anyBelow n P || b) (sym (ap P q) ∙ e) ∙ or-true (anyBelow n P)
     go f (no q) = ap (λ (b : Bool). b || P n) (f (omega arith) e)
 
 pub any-none : (P : ℕ → Bool) → anyBelow 0 P ≡ false
@@ -114,35 +108,35 @@ any-some P (suc n) e = go (anyBelow n P) refl (P n) refl e (any-some P n)
     go false p true q h f = (n, omega arith, q)
     go false p false q h f = absurd (true≢false (sym h))
 
+-- where no number but i can have P, to ask whether one below n has it is to ask whether i has it
+pub any-one : (P : ℕ → Bool) (n i : ℕ) → i < n → ((j : ℕ) → j < n → P j ≡ true → j ≡ i) → anyBelow n P ≡ P i
+any-one P n i l h = go (P i) refl (anyBelow n P) refl
+  where
+    go : (s : Bool) → P i ≡ s → (t : Bool) → anyBelow n P ≡ t → t ≡ s
+    go true e t f = sym f ∙ any-true P n i l e
+    go false e false f = refl
+    go false e true f = let r = any-some P n f in absurd (true≢false (sym (r .2) ∙ ap P (h (r .0) (r .1) (r .2)) ∙ e))
+
 pub and-both : (a b : Bool) → (a && b) ≡ true → (a ≡ true) × (b ≡ true)
 and-both true b e = (refl, e)
 and-both false b e = absurd (true≢false (sym e))
 
-module _ (m : State) (N : Numbers (m .number) (m .atoms)) (l p : ℕ) (hp : p < m .atoms) where
-  pub one-place : (q : ℕ) → q < m .atoms → getD (m .number) q 0 ≡ getD (m .number) p 0 → q ≡ p
-  one-place q hq e = go (order q p)
-    where
-      go : Order q p → q ≡ p
-      go (less g) = absurd (N .apart q p g hp e)
-      go (same g) = g
-      go (more g) = absurd (N .apart p q g hq (sym e))
+pub or-either : (a b : Bool) → (a || b) ≡ true → (a ≡ true) ⊎ (b ≡ true)
+or-either true b e = inl refl
+or-either false b e = inr e
 
-  -- the atom at place p is on link l exactly where the winner at l's source, for p's addresses, names l
-  pub on-place : isOn m l (getD (m .number) p 0) ≡ names (nextAt m (getD (m .cut) p 0) (sourceOf m l)) l
-  unfolding isOn
-  on-place = go (names (nextAt m (getD (m .cut) p 0) (sourceOf m l)) l) refl
-    where
-      P : ℕ → Bool
-      P q = eqb (getD (m .number) q 0) (getD (m .number) p 0) && names (nextAt m (getD (m .cut) q 0) (sourceOf m l)) l
+-- a number is one place's
+pub one-place : {number : List ℕ} {n : ℕ} → Numbers number n → (p q : ℕ) → p < n → q < n → getD number p 0 ≡ getD number q 0 → p ≡ q
+one-place N p q hp hq e = go (order p q)
+  where
+    go : Order p q → p ≡ q
+    go (less h) = absurd (N .apart p q h hq e)
+    go (same h) = h
+    go (more h) = absurd (N .apart q p h hp (sym e))
 
-      none-of : (t : Bool) → anyBelow (m .atoms) P ≡ t → names (nextAt m (getD (m .cut) p 0) (sourceOf m l)) l ≡ false → t ≡ false
-      none-of false e f = refl
-      none-of true e f =
-          let r = any-some P (m .atoms) e in
-          let b = and-both _ _ (r .2) in
-          let s = one-place (r .0) (r .1) (eqb-true _ _ (b .0)) in
-          absurd (true≢false (sym (b .1) ∙ ap (λ (q : ℕ). names (nextAt m (getD (m .cut) q 0) (sourceOf m l)) l) s ∙ f))
-
-      go : (t : Bool) → names (nextAt m (getD (m .cut) p 0) (sourceOf m l)) l ≡ t → anyBelow (m .atoms) P ≡ t
-      go true e = any-true P (m .atoms) p hp (ap₂ _&&_ (eq-eqb (getD (m .number) p 0) (getD (m .number) p 0) refl) e)
-      go false e = none-of (anyBelow (m .atoms) P) refl e
+-- the atom at place p is on link l exactly where the winner at l's source, for p's addresses, names l
+pub on-place : (m : State) → Numbers (m .number) (m .atoms) → (l p : ℕ) → p < m .atoms → isOn m l (getD (m .number) p 0) ≡ names (nextAt m (getD (m .cut) p 0) (sourceOf m l)) l
+unfolding isOn
+on-place m N l p h =
+    any-one _ (m .atoms) p h (λ q g e. one-place N q p g h (eqb-true _ _ (and-both _ _ e .0)))
+    ∙ ap (λ (t : Bool). t && names (nextAt m (getD (m .cut) p 0) (sourceOf m l)) l) (eq-eqb (getD (m .number) p 0) (getD (m .number) p 0) refl)

@@ -1,7 +1,7 @@
 -- One move by the tables, and the questions about a walk as code asks them: move by move. Assumes nothing.
 use mathlib.Core.Path.{_≡_, refl, sym, ap, ap₂, _∙_}
 use mathlib.Core.Logic.{_⊎_, inl, inr, ⊎-elim}
-use mathlib.Core.Bool.{Bool, true, false, _||_, true≢false}
+use mathlib.Core.Bool.{Bool, true, false, _||_, _&&_, true≢false}
 use mathlib.Core.List.{List}
 use mathlib.Core.Option.{Option, none, some}
 use Prim.Native.Nat.{ℕ, suc, _+_, _-_, _*_, _/_, _%_, _^_, _≤_, _<_}
@@ -10,24 +10,20 @@ use native.Mathlib.Numerals.{add-one}
 use native.Mathlib.Omega.{arith}
 use borrow.Author.Count.{below-more}
 use lib.Bits.{bitOr, bitAnd, or-comm}
-use lib.Dec.{ltb, eqb}
-use borrow.Author.Tests.{lt-ltb, le-ltb, eq-eqb, ne-eqb, eqb-true}
-use Rattle.meaning.specs.Search.{pick, anyBelow}
+use lib.Dec.{eqb}
+use borrow.Author.Tests.{lt-ltb, eq-eqb, ne-eqb}
+use Rattle.meaning.specs.Search.{anyBelow}
 use Rattle.meaning.specs.Labels.{bit}
-use Rattle.meaning.specs.Walk.{Place, at, out, lost, arrive, leave, move, after, standsAt, onCircle, comesTo}
+use Rattle.meaning.specs.Walk.{Place, at, out, lost, move, after, standsAt, onCircle, comesTo}
+use Rattle.meaning.proofs.Moves.{goes-to}
 use Rattle.meaning.proofs.Walks.{Reaches, after-suc, going-le}
 use Rattle.meaning.proofs.Places.{le-or-lt}
 use Rattle.meaning.proofs.Members.{any-true, any-some}
 use Rattle.meaning.proofs.Idle.{any-off}
 use Rattle.meaning.proofs.Means.{stands-at, at-stands}
-use Rattle.meaning.proofs.Bits.{bit-lt, bit-of-zero, bit-or, bit-and, bit-not, set-bit, mask-node}
+use Rattle.meaning.proofs.Bits.{bit-of-zero, or-bits, and-bits, ones-bits, set-bit, shifted}
 use Rattle.meaning.proofs.Circles.{round-again}
 use Rattle.meaning.proofs.Owners.{ownerIn, viaLink, nextIn}
-
--- a place that is no node
-apart : (v l w : ℕ) (t : Bool) → pick t (out l) (lost v) ≡ at w → ⊥
-apart v l w true e = let z : _≡_ {A = ℕ} 0 1 = cc in omega arith
-apart v l w false e = let z : _≡_ {A = ℕ} 0 1 = cc in omega arith
 
 -- the next link by an owner, and where it leads
 module _ (owner : List ℕ) (k v : ℕ) (h : v < 16) where
@@ -41,18 +37,19 @@ module _ (owner : List ℕ) (k v : ℕ) (h : v < 16) where
 
   module _ (end : ℕ → ℕ) where
     pub no-owner : ownerIn owner k v ≡ 0 → (w : ℕ) → move (nextIn owner k) end (at v) ≡ at w → ⊥
-    unfolding move leave
-    no-owner e w q = apart v 0 w false (sym (ap (leave end v) (next-none e)) ∙ q)
+    no-owner e w q =
+        let g = goes-to (nextIn owner k) end v w .0 q in
+        let z : _≡_ {A = ℕ} 0 1 = cc (next-none e, g .1) in
+        omega arith
 
     pub to-node : (ownerIn owner k v ≡ 0 → ⊥) → end (ownerIn owner k v / 512 % 64) < 256 → move (nextIn owner k) end (at v) ≡ at (end (ownerIn owner k v / 512 % 64))
-    unfolding move leave arrive
-    to-node n l = rw (next-some n, lt-ltb (end (ownerIn owner k v / 512 % 64)) 256 l)
+    to-node n l = goes-to (nextIn owner k) end v _ .1 (_, next-some n, refl, l)
 
     pub to-end : (ownerIn owner k v ≡ 0 → ⊥) → 256 ≤ end (ownerIn owner k v / 512 % 64) → (w : ℕ) → move (nextIn owner k) end (at v) ≡ at w → ⊥
-    unfolding move leave arrive
     to-end n l w q =
-        let x : ℕ = ownerIn owner k v / 512 % 64 in
-        apart v x w (ltb (end x) 512) (sym (ap (leave end v) (next-some n) ∙ ap (λ (t : Bool). pick t (at (end x)) (pick (ltb (end x) 512) (out x) (lost v))) (le-ltb (end x) 256 l)) ∙ q)
+        let g = goes-to (nextIn owner k) end v w .0 q in
+        let e : g .0 ≡ ownerIn owner k v / 512 % 64 = cc (next-some n, g .1) in
+        omega (arith, ap end e, g .2, g .3)
 
 -- some number below n has P, where those below i have not
 module _ (P : ℕ → Bool) (n i : ℕ) (before : (k : ℕ) → k < i → P k ≡ false) where
@@ -138,18 +135,18 @@ in-none u e = true≢false (sym e ∙ ap (λ (d : ℕ). eqb d 1) (bit-of-zero u)
 
 -- the set of all 16
 pub in-all : (u : ℕ) → u < 16 → among 65535 u ≡ true
-in-all u h = eq-eqb (bit 65535 u) 1 (bit-not 16 0 u (omega arith) h ∙ ap (λ (x : ℕ). 1 - x) (bit-of-zero u))
+in-all = ones-bits 16
 
 module _ (a b u : ℕ) where
   pub in-either : among a u ≡ true → among (bitOr a b) u ≡ true
-  in-either e = eq-eqb (bit (bitOr a b) u) 1 (omega (arith, bit-or a b u, bit-lt b u, eqb-true (bit a u) 1 e))
+  in-either e = or-bits a b u ∙ ap (λ (t : Bool). t || among b u) e
 
   pub in-both : among a u ≡ true → among b u ≡ true → among (bitAnd a b) u ≡ true
-  in-both e f = eq-eqb (bit (bitAnd a b) u) 1 (omega (arith, bit-and a b u, eqb-true (bit a u) 1 e, eqb-true (bit b u) 1 f))
+  in-both e f = and-bits a b u ∙ ap₂ _&&_ e f
 
 -- node u alone
 pub in-alone : (u : ℕ) → u < 16 → among (1 * 2 ^ u % 65536) u ≡ true
-in-alone u h = rw (mask-node u h) (set-bit 0 u u ∙ ap₂ _||_ (ap (λ (d : ℕ). eqb d 1) (bit-of-zero u)) (eq-eqb u u refl))
+in-alone u h = rw (shifted 16 u h) (set-bit 0 u u ∙ ap₂ _||_ (ap (λ (d : ℕ). eqb d 1) (bit-of-zero u)) (eq-eqb u u refl))
 
 -- node u joins the set
 module _ (nodes u : ℕ) (h : u < 16) where
@@ -157,7 +154,7 @@ module _ (nodes u : ℕ) (h : u < 16) where
   in-new = rw or-comm (in-either (1 * 2 ^ u % 65536) nodes u (in-alone u h))
 
   pub in-old : (x : ℕ) → among (bitOr nodes (1 * 2 ^ u % 65536)) x ≡ true → (among nodes x ≡ true) ⊎ (u ≡ x)
-  in-old x e = go (among nodes x) refl (ℕ-discrete u x) (rw (mask-node u h) at e)
+  in-old x e = go (among nodes x) refl (ℕ-discrete u x) (rw (shifted 16 u h) at e)
     where
       go : (t : Bool) → among nodes x ≡ t → Dec (u ≡ x) → among (bitOr nodes (2 ^ u)) x ≡ true → (among nodes x ≡ true) ⊎ (u ≡ x)
       go true f d e = inl f

@@ -2,15 +2,15 @@
 -- m to n, a remove from n to m. With r, the winner is the better of the winner without it and r. Assumes nothing.
 use mathlib.Core.Path.{_≡_, refl, sym, ap, ap₂, _∙_, subst⁻¹}
 use mathlib.Core.Logic.{_⊎_, inl, inr, ⊎-elim}
-use mathlib.Core.Bool.{Bool, true, false, not, true≢false}
+use mathlib.Core.Bool.{Bool, true, false, true≢false}
 use mathlib.Core.List.{List, [], _∷_, _++_, append-assoc, append-nil}
 use mathlib.Core.Option.{none, some}
 use Prim.Native.Nat.{ℕ, zero, suc, _+_, _*_, _/_, _≤_, _<_}
 use native.Mathlib.Decide.{ℕ-discrete}
 use native.Mathlib.Omega.{arith}
-use lib.Dec.{leb, ltb}
+use lib.Dec.{ltb}
 use lib.ListN.{length, getD}
-use borrow.Author.Tests.{ltb-true, ltb-false, leb-true, eqb-true, not-false}
+use borrow.Author.Tests.{ltb-true, ltb-false, eqb-true}
 use Rattle.meaning.specs.Search.{pick}
 use Rattle.meaning.specs.Hall.{top, State, sourceOf}
 use Rattle.meaning.specs.Rule.{ruleWord, live, linkOf, rank, lower, upper, covers}
@@ -23,31 +23,18 @@ use Rattle.meaning.specs.Records.{phaseOf}
 use Rattle.meaning.specs.Step.{refusal, withRule, inserted, leaves, nodeOf}
 use Rattle.meaning.proofs.Words.{link-of, live-of, Sized, Fits}
 use Rattle.meaning.proofs.Tables.{Cuts, Boundary}
-use Rattle.meaning.proofs.Members.{and-both}
-use Rattle.meaning.proofs.Sound.{Sound, when-none}
-use Rattle.meaning.proofs.Ranks.{Wins, wins-once, keep-out, take-first, take-higher, keep-lower}
-use Rattle.meaning.proofs.Means.{fit, wins}
+use Rattle.meaning.proofs.Sound.{Sound}
+use Rattle.meaning.proofs.Ranks.{Wins, keep-out, take-first, take-higher, keep-lower}
+use Rattle.meaning.proofs.Means.{Winner, fit, wins, winner-only}
+use Rattle.meaning.proofs.Winners.{covers-is}
 use Rattle.meaning.proofs.Places.{le-or-lt, place-le, place-max, cut-le}
 use Rattle.meaning.proofs.Parted.{boundary-is}
-use Rattle.meaning.proofs.Kept.{rule-new, rule-old, Clear, clear, keeps}
+use Rattle.meaning.proofs.Kept.{Clear, clear, ClearRemove, clear-remove, rule-new, rule-old, keeps}
 use Rattle.meaning.proofs.Exchange.{winner-same, next-same}
+use Rattle.meaning.proofs.Lists.{places-same}
+use Rattle.meaning.proofs.Ends as ends
 use Rattle.meaning.proofs.Owners.{via}
 use Rattle.meaning.proofs.Labelled.{link-small, via-word, via-won, won-at}
-
--- ---- the winner is known by what it is
-
--- w is the one eligible rule of the highest rank, or 256 where no rule is eligible
-abbrev pub Winner : State → ℕ → ℕ → ℕ → Type 0
-Winner m v a w = ((w ≡ 256) × ((i : ℕ) → i < 256 → eligible m v a i ≡ true → ⊥)) ⊎ Wins (eligible m v a) (λ i. rank (ruleAt m i)) 256 w
-
-pub winner-only : (m : State) → Sound m → (v a w : ℕ) → Winner m v a w → winner m v a ≡ w
-winner-only m S v a w W = go (wins m S v a) W
-  where
-    go : Winner m v a (winner m v a) → Winner m v a w → winner m v a ≡ w
-    go (inl x) (inl y) = x .0 ∙ sym (y .0)
-    go (inl x) (inr y) = absurd (x .1 w (y .within) (y .fits))
-    go (inr x) (inl y) = absurd (y .1 (winner m v a) (x .within) (x .fits))
-    go (inr x) (inr y) = wins-once _ _ 256 (winner m v a) w x y
 
 pub winner-le : (m : State) → Sound m → (v a : ℕ) → winner m v a ≤ 256
 winner-le m S v a = ⊎-elim (λ x. omega (arith, x .0)) (λ x. omega (arith, x .within)) (wins m S v a)
@@ -176,22 +163,21 @@ owner-source m S v a n = let o = won-at m S v a n in ap (sourceOf m) (via-won m 
 -- ---- an accepted remove and an accepted insert
 
 module _ (m : State) (r : ℕ) (S : Sound m) (ph : m .phase ≡ 2) (ok : refusal m (remove r) ≡ none) where
-  live-there : (r < 256) × (live (ruleAt m r) ≡ true)
-  unfolding refusal
-  live-there = let a = when-none _ _ _ ok in (omega (arith, ltb-false 255 r (a .0)), not-false _ (when-none _ _ _ (a .1) .0))
+  live-there : ClearRemove m r
+  live-there = clear-remove m r ok
 
   pub goes : (v : ℕ) → v ≡ nodeOf m (remove r) → Joined (withRule m r 0) m r (ruleAt m r) v
   unfolding nodeOf
   goes v e = record {
     less = unfold leaves phaseOf Fits in keeps m (remove r) S tt ph ok;
     more = S;
-    slot = live-there .0;
+    slot = live-there .number;
     links = unfold withRule in refl;
-    free = ap live (rule-new m r 0 (S .rules) (live-there .0)) ∙ (unfold live in refl);
+    free = ap live (rule-new m r 0 (S .rules) (live-there .number)) ∙ (unfold live in refl);
     word = refl;
-    alive = live-there .1;
+    alive = live-there .alive;
     node = sym e;
-    others = λ i d. sym (rule-old m r 0 (S .rules) (live-there .0) i d);
+    others = λ i d. sym (rule-old m r 0 (S .rules) (live-there .number) i d);
   }
 
 -- an insert goes by way of the state whose boundaries are made
@@ -247,13 +233,10 @@ module _ {cut : List ℕ} {k z f t : ℕ} (C : Cuts top cut k) where
         (omega (arith, P .from, P .within, cut-le C f q a (omega (arith, P .within))), omega (arith, P .to, C .up q t b (P .within)))
 
     pub of-span : q < k → covers z (getD cut q 0) ≡ true → (f ≤ q) × (q < t)
-    unfolding covers
     of-span h e =
-        let b = and-both (leb (lower z) (getD cut q 0)) (ltb (getD cut q 0) (upper z)) e in
-        let low = leb-true (lower z) (getD cut q 0) (b .0) in
-        let high = ltb-true (getD cut q 0) (upper z) (b .1) in (
-          ⊎-elim (λ (g : f ≤ q). g) (λ (g : q < f). absurd (omega (arith, C .up q f g (omega (arith, P .order, P .within)), P .from))) (le-or-lt f q),
-          ⊎-elim (λ (g : t ≤ q). absurd (omega (arith, cut-le C t q g (omega arith), P .to))) (λ (g : q < t). g) (le-or-lt t q),
+        let b = covers-is z (getD cut q 0) .0 e in (
+          ⊎-elim (λ (g : f ≤ q). g) (λ (g : q < f). absurd (omega (arith, C .up q f g (omega (arith, P .order, P .within)), P .from, b .0))) (le-or-lt f q),
+          ⊎-elim (λ (g : t ≤ q). absurd (omega (arith, cut-le C t q g (omega arith), P .to, b .1))) (λ (g : q < t). g) (le-or-lt t q),
         )
 
 module _ {m n : State} {r z v : ℕ} (J : Joined m n r z v) where
@@ -310,9 +293,7 @@ module _ (m n : State) (v : ℕ) where
   entries-append (p ∷ ps) qs = rw (entries-append ps qs) (sym (append-assoc (entryAt m n v p) (entriesAt m n v ps) (entriesAt m n v qs)))
 
   pub entries-length : (ps : List ℕ) → length (entriesAt m n v ps) ≡ 5 * length ps
-  unfolding entriesAt entryAt
-  entries-length [] = refl
-  entries-length (p ∷ ps) = omega (arith, entries-length ps)
+  entries-length = ends.entries-length m n v
 
   -- the words of the first k places
   abbrev pub listTo : ℕ → List ℕ
@@ -340,9 +321,8 @@ module _ (m n : State) (v : ℕ) where
 -- only the rules and the links of the state before count
 module _ (m o n : State) (rules : m .rule ≡ o .rule) (links : m .link ≡ o .link) (v : ℕ) where
   pub same-places : (k : ℕ) → changedPlaces m n v k ≡ changedPlaces o n v k
-  unfolding changedPlaces changedAt
-  same-places zero = refl
-  same-places (suc p) = rw (same-places p, winner-same m o rules links v (getD (n .cut) p 0))
+  unfolding changedAt
+  same-places = places-same m n o n v (λ q. rw (winner-same m o rules links v (getD (n .cut) q 0)))
 
   pub same-entries : (ps : List ℕ) → entriesAt m n v ps ≡ entriesAt o n v ps
   unfolding entriesAt entryAt

@@ -3,18 +3,17 @@
 use mathlib.Core.Path.{_≡_, refl, sym, ap, _∙_}
 use mathlib.Core.List.{List}
 use mathlib.Core.Bool.{Bool, true, false}
-use mathlib.Core.Logic.{_⊎_, inl, inr, ⊎-elim}
-use Prim.Native.Nat.{ℕ, zero, suc, _+_, _-_, _≤_, _<_}
+use mathlib.Core.Logic.{_⊎_, ⊎-elim}
+use Prim.Native.Nat.{ℕ, _+_, _-_, _≤_, _<_}
 use native.Mathlib.Nat.{eq-or-lt-of-le}
 use native.Mathlib.Omega.{arith}
-use lib.Dec.{eqb}
 use lib.ListN.{length, getD, List·getD-eq-default}
-use borrow.Author.Tests.{eqb-true, eqb-false, eq-eqb, ne-eqb}
-use Rattle.meaning.proofs.Tables.{Cuts, Holds, Numbers, Boundary}
+use borrow.Author.Tests.{eqb-true, eqb-false, eq-eqb}
+use Rattle.meaning.proofs.Tables.{Cuts, Numbers, Boundary}
 use Rattle.meaning.specs.Atoms.{placeOf, isCut, insertAt, splitCut, splitNumber, splitCount}
 use Rattle.meaning.specs.Search.{pick}
 use Rattle.meaning.proofs.Insert.{length-insertAt, insert-below, insert-same, insert-over, insert-next}
-use Rattle.meaning.proofs.Places.{le-or-lt, Order, less, same, more, order, place-le, place-from, place-max, place-lt, from-zero, cut-le, place-holds, holds-place}
+use Rattle.meaning.proofs.Places.{le-or-lt, Order, less, same, more, order, place-le, place-from, place-max, place-below, from-zero, cut-le}
 
 back : (n : ℕ) → n + 1 - 1 ≡ n
 back n = omega arith
@@ -78,7 +77,7 @@ module _ {top : ℕ} {cut : List ℕ} {n b : ℕ} (w : Cuts top cut n) (bt : b �
   within = ⊎-elim (λ (e : placeOf cut n b ≡ n). absurd (omega (arith, starts, ap (λ (x : ℕ). getD cut x 0) e, w .last))) (λ g. g) (eq-or-lt-of-le (place-le cut n b))
 
   pub ends : b < getD cut (placeOf cut n b + 1) 0
-  ends = ⊎-elim (λ (g : getD cut (placeOf cut n b + 1) 0 ≤ b). absurd (omega (arith, place-max cut n b (placeOf cut n b + 1) (omega (arith, within)) g))) (λ g. g) (le-or-lt (getD cut (placeOf cut n b + 1) 0) b)
+  ends = place-below cut n b within
 
 -- the tables are well formed again
 pub split-cuts : (top : ℕ) (cut : List ℕ) (n b : ℕ) → Cuts top cut n → b ≤ top → (isCut cut n b ≡ false → n < 512) → Cuts top (splitCut cut n b) (splitCount cut n b)

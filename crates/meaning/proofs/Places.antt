@@ -1,17 +1,16 @@
 -- Laws of `placeOf`: it is the last place up to n whose lower end is at most a.
 -- Assumes nothing.
 use mathlib.Core.Path.{_≡_, refl, ap}
-use mathlib.Core.List.{List, [], _∷_}
+use mathlib.Core.List.{List}
 use mathlib.Core.Bool.{Bool, true, false}
 use mathlib.Core.Logic.{_⊎_, inl, inr, ⊎-elim}
 use Prim.Native.Nat.{ℕ, zero, suc, _+_, _≤_, _<_}
-use native.Mathlib.Nat.{not-suc-le-zero, le-of-suc-le-suc, eq-or-lt-of-le}
-use native.Mathlib.Numerals.{add-one}
+use native.Mathlib.Nat.{eq-or-lt-of-le}
 use native.Mathlib.Omega.{arith}
 use lib.Dec.{leb}
-use lib.ListN.{length, getD, set}
+use lib.ListN.{getD}
 use borrow.Author.Tests.{leb-true, leb-false}
-use Rattle.meaning.proofs.Tables.{Cuts, Holds}
+use Rattle.meaning.proofs.Tables.{Cuts, Holds, Boundary}
 use Rattle.meaning.specs.Atoms.{placeOf}
 use Rattle.meaning.specs.Search.{pick}
 
@@ -60,6 +59,12 @@ place-max cut (suc k) a q l h = go (leb (getD cut (suc k) 0) a) refl (λ l′. p
     go true e ih = l
     go false e ih = ⊎-elim (λ (s : q ≡ suc k). omega (arith, ap (λ (i : ℕ). getD cut i 0) s, leb-false (getD cut (suc k) 0) a e)) (λ (s : q < suc k). ih (omega arith)) (eq-or-lt-of-le l)
 
+-- and the next place's, where there is one, is above a
+pub place-below : (cut : List ℕ) (n a : ℕ) → placeOf cut n a < n → a < getD cut (placeOf cut n a + 1) 0
+place-below cut n a h =
+    ⊎-elim (λ (g : getD cut (placeOf cut n a + 1) 0 ≤ a). absurd (omega (arith, place-max cut n a (placeOf cut n a + 1) (omega arith) g))) (λ g. g)
+    (le-or-lt (getD cut (placeOf cut n a + 1) 0) a)
+
 module _ {top : ℕ} {cut : List ℕ} {n : ℕ} (w : Cuts top cut n) where
   pub from-zero : (a : ℕ) → getD cut 0 0 ≤ a
   from-zero a = omega (arith, w .first)
@@ -81,19 +86,21 @@ module _ {top : ℕ} {cut : List ℕ} {n : ℕ} (w : Cuts top cut n) where
 
   -- an address below top lies in its place
   pub place-holds : (a : ℕ) → a < top → Holds cut n a (placeOf cut n a)
-  place-holds a h = record {
-    within = in-range;
-    from = place-from cut n a (from-zero a);
-    below = ⊎-elim
-        (λ (g : getD cut (placeOf cut n a + 1) 0 ≤ a). omega (arith, place-max cut n a (placeOf cut n a + 1) (omega (arith, in-range)) g))
-        (λ (g : a < getD cut (placeOf cut n a + 1) 0). g)
-        (le-or-lt (getD cut (placeOf cut n a + 1) 0) a);
-  }
-    where
-      in-range : placeOf cut n a < n
-      in-range = place-lt a n (omega arith) (omega (arith, w .last))
+  place-holds a h =
+      let l = place-lt a n (omega arith) (omega (arith, w .last)) in
+      record { within = l; from = place-from cut n a (from-zero a); below = place-below cut n a l }
 
   -- and in no other
   pub holds-place : {a p : ℕ} → Holds cut n a p → p ≡ placeOf cut n a
   holds-place {a} {p} h =
       omega (arith, place-max cut n a p (omega (arith, h .within)) (h .from), place-lt a (p + 1) (omega (arith, h .within)) (h .below))
+
+  -- the lower end of a place lies in it
+  pub lower-holds : (p : ℕ) → p < n → Holds cut n (getD cut p 0) p
+  lower-holds p h = record { within = h; from = omega arith; below = w .up p (p + 1) (omega arith) (omega arith) }
+
+  -- a boundary is at most the lower end of a's place p, or above a
+  pub beside : (p a x : ℕ) → p < n → a < getD cut (suc p) 0 → Boundary cut n x → (x ≤ getD cut p 0) ⊎ (a < x)
+  beside p a x h g b =
+      ⊎-elim (λ (l : b .place ≤ p). inl (omega (arith, b .is, cut-le (b .place) p l (omega arith))))
+      (λ (l : p < b .place). inr (omega (arith, b .is, cut-le (suc p) (b .place) l (b .within)))) (le-or-lt (b .place) p)

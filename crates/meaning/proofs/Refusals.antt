@@ -2,13 +2,13 @@
 -- and the number is one of those reasons' own. Assumes nothing.
 use mathlib.Core.Path.{_≡_, refl, sym, ap, _∙_}
 use mathlib.Core.Logic.{_⊎_, inl, inr, ⊎-elim}
-use mathlib.Core.Bool.{Bool, true, false, not, _&&_, _||_, true≢false}
+use mathlib.Core.Bool.{Bool, true, false, not, _&&_, true≢false}
 use mathlib.Core.Option.{Option, none, some}
 use Prim.Native.Nat.{ℕ, _+_, _-_, _%_, _^_, _≤_, _<_}
 use native.Mathlib.Omega.{arith}
 use lib.Dec.{leb, ltb, eqb}
 use lib.ListN.{getD}
-use borrow.Author.Tests.{ltb-true, ltb-false, leb-true, leb-false, eqb-true, eqb-false, eq-eqb, ne-eqb, not-true, not-false, le-leb}
+use borrow.Author.Tests.{ltb-true, ltb-false, leb-true, leb-false, eqb-true, eqb-false, eq-eqb, not-true}
 use Rattle.meaning.specs.declared.Record.{Record}
 use Rattle.meaning.specs.declared.Record.the-variants.{Hall as hall, Link as link, Close as close, Insert as insert, Remove as remove, Loop as loop, Fate as fate, Reach as reach, Tally as tally}
 use Rattle.meaning.specs.Hall.{State, sourceOf}
@@ -16,9 +16,9 @@ use Rattle.meaning.specs.Rule.{ruleWord, live, linkOf, rank, covers}
 use Rattle.meaning.specs.Winner.{ruleAt}
 use Rattle.meaning.specs.Step.{when, ragged, clashes, added, refusal}
 use Rattle.meaning.specs.Run.{Came}
-use Rattle.meaning.proofs.Members.{any-true, any-some, and-both}
+use Rattle.meaning.proofs.Members.{any-true, any-some, and-both, or-either}
 use Rattle.meaning.proofs.Sound.{when-none, or-false}
-use Rattle.meaning.proofs.Kept.{clear, sound}
+use Rattle.meaning.proofs.Kept.{clear-link, clear, clear-remove, sound}
 use Rattle.meaning.proofs.Winners.{overlap-is}
 
 -- live rule i stands at the node of the rule with the word w, has its priority, and covers an address that it covers
@@ -50,11 +50,7 @@ pub data Reason (m : State) : Record → ℕ → Type 0 where
   tied : (r l p n t i : ℕ) → Ties m (ruleWord l p n t) i → Reason m (insert r l p n t) 12
   full : (r l p n t : ℕ) → 511 < (m .atoms - 1) + added m (ruleWord l p n t) → Reason m (insert r l p n t) 13
 
--- ---- tests
-
-or-true : (a b : Bool) → (a || b) ≡ true → (a ≡ true) ⊎ (b ≡ true)
-or-true true b e = inl refl
-or-true false b e = inr e
+-- ---- the checks
 
 module _ (m : State) where
   -- a tie is what check 12 looks for
@@ -87,12 +83,12 @@ module _ (m : State) where
   pub reason : (r : Record) (k : ℕ) → refusal m r ≡ some k → Reason m r k
   unfolding refusal ragged
   reason (hall n) =
-      check (hall n) _ 4 _ (λ e. no-node-count n (⊎-elim (λ f. inl (eqb-true n 0 f)) (λ f. inr (ltb-true 16 n f)) (or-true (eqb n 0) (ltb 16 n) e))) (passes (hall n))
+      check (hall n) _ 4 _ (λ e. no-node-count n (⊎-elim (λ f. inl (eqb-true n 0 f)) (λ f. inr (ltb-true 16 n f)) (or-either (eqb n 0) (ltb 16 n) e))) (passes (hall n))
   reason (link s c e) =
       check (link s c e) _ 6 _ (λ f. many-links s c e (leb-true 64 (m .links) f))
       (check (link s c e) _ 4 _ (λ f. no-source s c e (leb-true (m .nodes) s f))
       (check (link s c e) _ 7 _
-      (λ f. no-end s c e (⊎-elim (λ g. inl (ltb-true 2 c g)) (λ g. let b = and-both (eqb c 2) (not (eqb e 0)) g in inr (eqb-true c 2 (b .0), eqb-false e 0 (not-true _ (b .1)))) (or-true (ltb 2 c) (eqb c 2 && not (eqb e 0)) f)))
+      (λ f. no-end s c e (⊎-elim (λ g. inl (ltb-true 2 c g)) (λ g. let b = and-both (eqb c 2) (not (eqb e 0)) g in inr (eqb-true c 2 (b .0), eqb-false e 0 (not-true _ (b .1)))) (or-either (ltb 2 c) (eqb c 2 && not (eqb e 0)) f)))
       (check (link s c e) _ 4 _ (λ f. let b = and-both (eqb c 0) (leb (m .nodes) e) f in no-end-node s c e (eqb-true c 0 (b .0)) (leb-true (m .nodes) e (b .1))) (passes (link s c e)))))
   reason close = passes close
   reason (insert r l p n t) =
@@ -100,7 +96,7 @@ module _ (m : State) where
       (check (insert r l p n t) _ 9 _ (λ f. is-live r l p n t f)
       (check (insert r l p n t) _ 5 _ (λ f. no-link r l p n t (leb-true (m .links) l f))
       (check (insert r l p n t) _ 11 _
-      (λ f. no-prefix r l p n t (⊎-elim (λ g. inl (ltb-true 32 n g)) (λ g. inr (eqb-false _ 0 (not-true _ g))) (or-true (ltb 32 n) (not (eqb (p % 2 ^ (32 - n)) 0)) f)))
+      (λ f. no-prefix r l p n t (⊎-elim (λ g. inl (ltb-true 32 n g)) (λ g. inr (eqb-false _ 0 (not-true _ g))) (or-either (ltb 32 n) (not (eqb (p % 2 ^ (32 - n)) 0)) f)))
       (check (insert r l p n t) _ 12 _ (λ f. let x = ties (ruleWord l p n t) f in tied r l p n t (x .0) (x .1))
       (check (insert r l p n t) _ 13 _ (λ f. full r l p n t (omega (arith, ltb-true 512 (m .atoms + added m (ruleWord l p n t)) f))) (passes (insert r l p n t)))))))
   reason (remove r) =
@@ -117,24 +113,20 @@ module _ (m : State) where
   no-reason h r k ok (no-node-count n x) =
       let a = or-false (eqb n 0) (ltb 16 n) (when-none _ _ _ ok .0) in
       ⊎-elim (λ e. eqb-false n 0 (a .0) e) (λ g. omega (arith, ltb-false 16 n (a .1))) x
-  no-reason h r k ok (no-source s c e x) = omega (arith, leb-false (m .nodes) s (when-none _ _ _ (when-none _ _ _ ok .1) .0))
-  no-reason h r k ok (no-end-node s c e x y) =
-      let f = when-none _ _ _ (when-none _ _ _ (when-none _ _ _ (when-none _ _ _ ok .1) .1) .1) .0 in
-      true≢false (sym (rw (eq-eqb c 0 x, le-leb (m .nodes) e y) refl) ∙ f)
+  no-reason h r k ok (no-source s c e x) = omega (arith, clear-link m s c e ok .source)
+  no-reason h r k ok (no-end-node s c e x y) = omega (arith, clear-link m s c e ok .node x)
   no-reason h r k ok (fate-node v a x) = omega (arith, leb-false (m .nodes) v (when-none _ _ _ ok .0))
   no-reason h r k ok (reach-node v w x) =
       let a = when-none _ _ _ ok in
       ⊎-elim (λ g. omega (arith, leb-false (m .nodes) v (a .0))) (λ g. omega (arith, leb-false (m .nodes) w (when-none _ _ _ (a .1) .0))) x
   no-reason h r k ok (tally-node v x) = omega (arith, leb-false (m .nodes) v (when-none _ _ _ ok .0))
   no-reason h r k ok (no-link i l p n t x) = omega (arith, clear m i l p n t ok .declared)
-  no-reason h r k ok (many-links s c e x) = omega (arith, leb-false 64 (m .links) (when-none _ _ _ ok .0))
-  no-reason h r k ok (no-end s c e x) =
-      let f = or-false (ltb 2 c) (eqb c 2 && not (eqb e 0)) (when-none _ _ _ (when-none _ _ _ (when-none _ _ _ ok .1) .1) .0) in
-      ⊎-elim (λ g. omega (arith, ltb-false 2 c (f .0))) (λ g. true≢false (sym (rw (eq-eqb c 2 (g .0), ne-eqb e 0 (g .1)) refl) ∙ f .1)) x
+  no-reason h r k ok (many-links s c e x) = omega (arith, clear-link m s c e ok .room)
+  no-reason h r k ok (no-end s c e x) = let a = clear-link m s c e ok in ⊎-elim (λ g. omega (arith, a .code)) (λ g. g .1 (a .drop (g .0))) x
   no-reason h r k ok (insert-number i l p n t x) = omega (arith, clear m i l p n t ok .number)
-  no-reason h r k ok (remove-number i x) = omega (arith, ltb-false 255 i (when-none _ _ _ ok .0))
+  no-reason h r k ok (remove-number i x) = omega (arith, clear-remove m i ok .number)
   no-reason h r k ok (is-live i l p n t x) = true≢false (sym x ∙ clear m i l p n t ok .free)
-  no-reason h r k ok (not-live i x) = true≢false (sym (not-false _ (when-none _ _ _ (when-none _ _ _ ok .1) .0)) ∙ x)
+  no-reason h r k ok (not-live i x) = true≢false (sym (clear-remove m i ok .alive) ∙ x)
   no-reason h r k ok (no-prefix i l p n t x) = let a = clear m i l p n t ok in ⊎-elim (λ g. omega (arith, a .long)) (λ g. g (a .flush)) x
   no-reason h r k ok (tied i l p n t j x) = true≢false (sym (tie-found (ruleWord l p n t) j x) ∙ clear m i l p n t ok .alone)
   no-reason h r k ok (full i l p n t x) =

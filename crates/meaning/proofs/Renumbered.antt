@@ -2,7 +2,7 @@
 -- Assumes nothing.
 use mathlib.Core.Path.{_≡_, refl, ap}
 use mathlib.Core.List.{List, [], _∷_}
-use Prim.Native.Nat.{ℕ, zero, suc}
+use Prim.Native.Nat.{ℕ}
 use lib.ListN.{length}
 use Rattle.meaning.specs.declared.Answer.{Answer}
 use Rattle.meaning.specs.declared.Answer.the-variants.{Changed}
@@ -16,6 +16,7 @@ use Rattle.meaning.specs.Changes.{changedAt, changedPlaces, entryAt, ent
 use Rattle.meaning.specs.Questions.{byAddress}
 use Rattle.meaning.specs.Records.{recordOf}
 use Rattle.meaning.specs.Step.{Done, clashes, added, refusal, withRule, inserted, withNodes, withLink, closed, leaves, listed, nodeOf, changes, turnedBy, only, answers, accepted, stepOf}
+use Rattle.meaning.proofs.Lists.{places-same}
 use Rattle.meaning.proofs.Demands.{SameEntries, empty, entry, SameStep, Call, since}
 use Rattle.meaning.proofs.Twins.{answers-same}
 use Rattle.meaning.proofs.Taking.{Unmoved, both-step}
@@ -71,9 +72,8 @@ module _ (old new : State) (numbers numbers′ : List ℕ) (v : ℕ) where
   new′ = renumbered new numbers′
 
   same-places : (k : ℕ) → changedPlaces old new v k ≡ changedPlaces old′ new′ v k
-  unfolding changedPlaces changedAt winner eligible ruleAt sourceOf renumbered
-  same-places zero = refl
-  same-places (suc k) = rw (same-places k)
+  unfolding changedAt winner eligible ruleAt sourceOf renumbered
+  same-places = places-same old new old′ new′ v (λ q. refl)
 
   same-entries : (ps : List ℕ) → SameEntries (entriesAt old new v ps) (entriesAt old′ new′ v ps)
   unfolding entriesAt entryAt nextAt linkFor winner eligible ruleAt sourceOf renumbered

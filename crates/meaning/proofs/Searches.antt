@@ -67,3 +67,10 @@ module _ (P : ℕ → Bool) (n : ℕ) where
       back : (o : Option ℕ) → Sought P n o → ((i : ℕ) → i < n → P i ≡ true → ⊥) → o ≡ none
       back o (missing f) g = refl
       back o (found b x) g = absurd (g b (x .within) (x .has))
+
+  -- the same by tests: none where all of them fail, and the one that holds where those before it fail
+  pub lowest-off : ((i : ℕ) → i < n → P i ≡ false) → lowestBelow n P ≡ none
+  lowest-off f = lowest-none .1 (λ i h e. true≢false (sym e ∙ f i h))
+
+  pub lowest-first : (a : ℕ) → a < n → P a ≡ true → ((i : ℕ) → i < a → P i ≡ false) → lowestBelow n P ≡ some a
+  lowest-first a h e f = lowest-is a .1 (record { within = h; has = e; first = λ i l p. true≢false (sym p ∙ f i l) })

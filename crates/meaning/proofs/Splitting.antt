@@ -19,9 +19,10 @@ use Rattle.meaning.proofs.Insert.{insert-below, insert-same, insert-ove
 use Rattle.meaning.proofs.Parted.{within, starts, ends}
 use Rattle.meaning.proofs.Constant.{same-winner}
 use Rattle.meaning.proofs.Kept.{keeps-cut}
+use Rattle.meaning.proofs.Numbering.{cut-old}
 use Rattle.meaning.proofs.Exchange.{winner-same}
 use Rattle.meaning.proofs.Owners.{ownerIn, via, Owned, Agrees, Whole}
-use Rattle.meaning.proofs.Below.{any-one}
+use Rattle.meaning.proofs.Members.{any-one}
 use Rattle.meaning.proofs.Labelled as labelled
 
 -- an owner at a node other than a link's source does not name the link
@@ -39,8 +40,7 @@ module _ (m : State) (label owner : List ℕ) (W : Whole m label owner) (k : ℕ
 module _ (m : State) (b : ℕ) where
   -- a boundary that there is changes nothing
   pub with-cut-same : isCut (m .cut) (m .atoms) b ≡ true → withCut m b ≡ m
-  unfolding withCut splitCut splitNumber splitCount
-  with-cut-same e = rw e
+  with-cut-same = cut-old m b
 
   -- rules and links are the same, so winners and their words are
   word-same : (v a : ℕ) → ownerWord (withCut m b) (winner (withCut m b) v a) ≡ ownerWord m (winner m v a)

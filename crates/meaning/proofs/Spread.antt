@@ -6,7 +6,6 @@ use mathlib.Core.Bool.{not}
 use mathlib.Core.Option.{none, some}
 use mathlib.Core.List.{List, [], _∷_, _++_, List·Memᴰ, List·Memᴰ·head, List·Memᴰ·tail, List·Memᴰ·not-nil, List·Memᴰ·cases-cons}
 use Prim.Native.Nat.{ℕ, _+_, _≤_, _<_}
-use native.Mathlib.Numerals.{add-one}
 use native.Mathlib.Omega.{arith}
 use lib.ListN.{getD, set}
 use borrow.Author.Tests.{eqb-false, ne-eqb, not-true}
@@ -22,7 +21,7 @@ use Rattle.meaning.specs.Step.{refusal, withRule, inserted, leaves, list
 use Rattle.meaning.specs.Run.{Came}
 use Rattle.meaning.proofs.Tables.{Cuts, Holds}
 use Rattle.meaning.proofs.Places.{place-holds, cut-top}
-use Rattle.meaning.proofs.Constant.{same-winner}
+use Rattle.meaning.proofs.Covering.{constant-in}
 use Rattle.meaning.proofs.Words.{Sized, Fits, fits}
 use Rattle.meaning.proofs.Sound.{Sound}
 use Rattle.meaning.proofs.Kept.{Clear, clear, keeps-cut, upper-top, room-upper, S₁, keeps, sound}
@@ -109,10 +108,6 @@ module _ (old new : State) (v : ℕ) (W : Cuts top (new .cut) (new .atoms))
           })
 
 -- ---- an accepted update
-
--- the winner is constant on each place of a sound state
-constant-in : (m : State) → Sound m → (v p a : ℕ) → Holds (m .cut) (m .atoms) a p → winner m v a ≡ winner m v (getD (m .cut) p 0)
-constant-in m S v p a H = same-winner m (S .cuts) (S .aligned) p a (H .within) (H .from) (rw add-one at (H .below)) v
 
 module _ (m : State) (c : Came m) where
   abbrev Spreads : Record → Type 0

@@ -22,25 +22,24 @@ use Rattle.meaning.proofs.Renumbered.{Alike, alike-later}
 
 -- ---- the boundaries determine the cutting
 
+-- where place p begins alike in both and the next boundary of c is one of d, the next of d is no higher
+next-low : {top : ℕ} {c d : List ℕ} {n k : ℕ} → Cuts top c n → Cuts top d k → (p : ℕ) → suc p ≤ n → p ≤ k → getD c p 0 ≡ getD d p 0
+    → Boundary d k (getD c (suc p) 0) → (suc p ≤ k) × (getD d (suc p) 0 ≤ getD c (suc p) 0)
+next-low C D p h l e x =
+    let up = C .up p (suc p) (omega arith) h in
+    let past : p < x .place = ⊎-elim (λ (g : x .place ≤ p). absurd (omega (arith, cut-le D (x .place) p g l, x .is))) (λ g. g) (le-or-lt (x .place) p) in
+    (omega (arith, x .within), omega (arith, cut-le D (suc p) (x .place) past (x .within), x .is))
+
 module _ {top : ℕ} {c d : List ℕ} {n k : ℕ} (C : Cuts top c n) (D : Cuts top d k)
     (there : (b : ℕ) → Boundary c n b → Boundary d k b) (back : (b : ℕ) → Boundary d k b → Boundary c n b) where
   -- place by place the boundaries are the same
   along : (p : ℕ) → p ≤ n → (p ≤ k) × (getD c p 0 ≡ getD d p 0)
   along zero h = (omega arith, C .first ∙ sym (D .first))
-  along (suc p) h = go (along p (omega arith))
-    where
-      go : (p ≤ k) × (getD c p 0 ≡ getD d p 0) → (suc p ≤ k) × (getD c (suc p) 0 ≡ getD d (suc p) 0)
-      go (l, e) =
-          let x = there (getD c (suc p) 0) (record { place = suc p; within = h; is = refl }) in
-          let up = C .up p (suc p) (omega arith) h in
-          let past : p < x .place = ⊎-elim (λ (g : x .place ≤ p). absurd (omega (arith, cut-le D (x .place) p g l, x .is))) (λ g. g) (le-or-lt (x .place) p) in
-          let low : getD d (suc p) 0 ≤ getD c (suc p) 0 = omega (arith, cut-le D (suc p) (x .place) past (x .within), x .is) in
-          let more : suc p ≤ k = omega (arith, x .within) in
-          let y = back (getD d (suc p) 0) (record { place = suc p; within = more; is = refl }) in
-          let up′ = D .up p (suc p) (omega arith) more in
-          let past′ : p < y .place = ⊎-elim (λ (g : y .place ≤ p). absurd (omega (arith, cut-le C (y .place) p g (omega arith), y .is))) (λ g. g) (le-or-lt (y .place) p) in
-          let high : getD c (suc p) 0 ≤ getD d (suc p) 0 = omega (arith, cut-le C (suc p) (y .place) past′ (y .within), y .is) in
-          (more, omega arith)
+  along (suc p) h =
+      let (l, e) = along p (omega arith) in
+      let x = next-low C D p h l e (there _ (record { place = suc p; within = h; is = refl })) in
+      let y = next-low D C p (x .0) (omega arith) (sym e) (back _ (record { place = suc p; within = x .0; is = refl })) in
+      (x .0, omega (arith, x .1, y .1))
 
 -- THE LAW: two cuttings with the same boundaries are the same
 pub same-cuts : {top : ℕ} {c d : List ℕ} {n k : ℕ} → Cuts top c n → Cuts top d k → ((b : ℕ) → Boundary c n b ↔ Boundary d k b) → (n ≡ k) × (c ≡ d)

@@ -10,7 +10,6 @@ use native.Mathlib.Decide.{ℕ-discrete}
 use native.Mathlib.Omega.{arith}
 use lib.ListN.{length, getD, set}
 use lib.Seq.{ext-getD, getD-set-same, getD-set-other, set-out}
-use borrow.Author.Tests.{eqb-true, not-false}
 use Rattle.meaning.specs.declared.Record.{Record}
 use Rattle.meaning.specs.declared.Record.the-variants.{Hall as hall, Link as link, Close as close, Insert as insert, Remove as remove, Loop as loop, Fate as fate, Reach as reach, Tally as tally}
 use Rattle.meaning.specs.Search.{lowestBelow}
@@ -23,7 +22,7 @@ use Rattle.meaning.specs.Records.{recordOf, phaseOf, isQuestion}
 use Rattle.meaning.specs.Step.{refusal, withRule, inserted, withNodes, withLink, closed, leaves, turnedBy, only, answers, accepted, stepOf}
 use Rattle.meaning.specs.Run.{Came, start, more}
 use Rattle.meaning.proofs.Places.{le-or-lt}
-use Rattle.meaning.proofs.Words.{Sized, Fits, link-of, rank-of, lower-of, length-of}
+use Rattle.meaning.proofs.Words.{Sized, Fits, link-of, rank-of, lower-of, length-of, free-zero}
 use Rattle.meaning.proofs.Sound.{Sound, step-keeps, fresh-sound}
 use Rattle.meaning.proofs.Kept.{clear, sound}
 use Rattle.meaning.proofs.Demands.{Twins}
@@ -77,10 +76,6 @@ packs m start = λ i e. absurd (true≢false (sym e ∙ fresh-sound .idle (unfol
 packs m (more {m = o} room s c) = step-keeps _ Packs o room s (packs-one o (sound o c) (packs o c)) (packs o c)
 
 -- ---- the same words
-
-free-zero : (w : ℕ) → live w ≡ false → w ≡ 0
-unfolding live
-free-zero w e = eqb-true w 0 (not-false _ e)
 
 module _ (m n : State) (T : Twins m n) where
   S : Sound m

@@ -1,19 +1,17 @@
 -- The laws of the walk. A walk of n moves among n nodes never ends, and `fateIn` is the fate.
 -- Assumes nothing.
 use mathlib.Core.Path.{_≡_, refl, sym, _∙_, ap}
-use mathlib.Core.Bool.{Bool, true, false}
-use mathlib.Core.Option.{Option, none, some}
+use mathlib.Core.Option.{Option}
 use Prim.Native.Nat.{ℕ, zero, suc, _+_, _-_, _≤_, _<_}
 use mathlib.Core.Logic.{_↔_}
 use native.Mathlib.Nat.{zero-add, suc-add, add-zero}
 use native.Mathlib.Numerals.{add-one, sub-one}
 use native.Mathlib.Omega.{arith}
-use lib.Dec.{ltb}
 use Rattle.meaning.specs.declared.Fate.{Fate}
 use Rattle.meaning.specs.declared.Fate.the-variants.{Out, Lost, Round}
-use Rattle.meaning.specs.Search.{pick}
-use Rattle.meaning.specs.Walk.{Place, at, out, lost, arrive, leave, move, after, told, fateIn}
-use Rattle.meaning.proofs.Pigeon.{Twice, pigeon}
+use Rattle.meaning.specs.Walk.{Place, at, out, lost, leave, move, after, told, fateIn}
+use Rattle.meaning.proofs.Moves.{lost-here}
+use Rattle.meaning.proofs.Pigeon.{pigeon}
 
 module _ (next : ℕ → Option ℕ) (end : ℕ → ℕ) where
   -- the walk from p is still going after k moves: the packet stands at a node
@@ -126,20 +124,6 @@ module _ (next : ℕ → Option ℕ) (end : ℕ → ℕ) where
     pub round : Going next end n (at v) ↔ Never next end (at v)
     round = (never, λ r. r n)
 
-  -- a packet that a move loses is lost where it stood
-  lost-here : (v w : ℕ) → move next end (at v) ≡ lost w → w ≡ v
-  unfolding move leave arrive
-  lost-here v w e = go (next v) e
-    where
-      arrived : (l x : ℕ) (a b : Bool) → pick a (at x) (pick b (out l) (lost v)) ≡ lost w → w ≡ v
-      arrived l x true b e = let z : _≡_ {A = ℕ} 0 1 = cc in absurd (omega arith)
-      arrived l x false true e = let z : _≡_ {A = ℕ} 0 1 = cc in absurd (omega arith)
-      arrived l x false false e = cc
-
-      go : (x : Option ℕ) → leave end v x ≡ lost w → w ≡ v
-      go none e = cc
-      go (some l) e = arrived l (end l) (ltb (end l) 256) (ltb (end l) 512) e
-
   -- `fateIn` is the fate, where a walk that makes k moves more never ends
   fate-in : (start k h v : ℕ) → after next end h (at start) ≡ at v → (Going next end (k + h) (at start) → Never next end (at start))
       → IsFate next end start (fateIn next end k h v)
@@ -153,7 +137,7 @@ module _ (next : ℕ → Option ℕ) (end : ℕ → ℕ) where
           → (q : Place) → move next end (at v) ≡ q → IsFate next end start (told (fateIn next end k (suc h)) h q)
       go ih (at w) f = ih w (cc (after-suc h (at start), ap (move next end) e, f))
       go ih (out l) f = (v, e, f)
-      go ih (lost w) f = let s = lost-here v w f in (cc, cc)
+      go ih (lost w) f = let s = lost-here next end v w f in (cc, cc)
 
   -- the fate of a packet at a node v of the hall's n
   pub fate-is : (n : ℕ) → Closed next end n → (v : ℕ) → v < n → IsFate next end v (fateIn next end n 0 v)

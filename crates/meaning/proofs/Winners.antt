@@ -9,7 +9,7 @@ use native.Mathlib.Omega.{arith}
 use lib.Pow.{pow-pos}
 use lib.Dec.{leb, ltb}
 use lib.ListN.{length}
-use borrow.Author.Tests.{ltb-true, ltb-false, leb-true, eqb-true, eq-eqb, lt-ltb, le-leb}
+use borrow.Author.Tests.{ltb-true, leb-true, eq-eqb, lt-ltb, le-leb}
 use Rattle.meaning.specs.declared.Record.the-variants.{Insert as insert, Remove as remove}
 use Rattle.meaning.specs.Hall.{State, sourceOf}
 use Rattle.meaning.specs.Rule.{ruleWord, live, linkOf, lengthOf, rank, lower, upper, covers, overlap}
@@ -20,10 +20,9 @@ use Rattle.meaning.specs.Run.{Came}
 use Rattle.meaning.proofs.Places.{le-or-lt}
 use Rattle.meaning.proofs.Members.{and-both}
 use Rattle.meaning.proofs.Words.{Sized, link-of, rank-of, lower-of, upper-of, length-of, live-of}
-use Rattle.meaning.proofs.Ranks.{Wins, wins-once}
-use Rattle.meaning.proofs.Sound.{Sound, when-none}
-use Rattle.meaning.proofs.Kept.{Clear, clear, rule-new, rule-old, sound}
-use Rattle.meaning.proofs.Means.{wins}
+use Rattle.meaning.proofs.Ranks.{Wins}
+use Rattle.meaning.proofs.Kept.{Clear, clear, clear-remove, rule-new, rule-old, sound}
+use Rattle.meaning.proofs.Means.{both-cover, Winner, fit, wins, winner-only}
 
 -- ---- the winner
 
@@ -50,7 +49,7 @@ covers-is w a = (
 -- two rules overlap exactly when some address is covered by both
 pub overlap-is : (x y : ℕ) → (overlap x y ≡ true) ↔ ((a : ℕ) × (covers x a ≡ true) × (covers y a ≡ true))
 unfolding overlap
-overlap-is x y = (there, back)
+overlap-is x y = (there, λ r. both-cover x y (r .0) (r .1) (r .2))
   where
     wide : (w : ℕ) → lower w < upper w
     wide w = unfold lower upper in omega (arith, pow-pos (w / 2 ^ 38 % 64))
@@ -65,70 +64,41 @@ overlap-is x y = (there, back)
         (λ (h : lower y < lower x). (lower x, covers-is x (lower x) .1 (omega arith, wide x), covers-is y (lower x) .1 (omega arith, p)))
         (le-or-lt (lower x) (lower y))
 
-    back : (a : ℕ) × (covers x a ≡ true) × (covers y a ≡ true) → (ltb (lower x) (upper y) && ltb (lower y) (upper x)) ≡ true
-    back r =
-        let p = covers-is x (r .0) .0 (r .1) in
-        let q = covers-is y (r .0) .0 (r .2) in
-        ap₂ _&&_ (lt-ltb (lower x) (upper y) (omega (arith, p .0, q .1))) (lt-ltb (lower y) (upper x) (omega (arith, q .0, p .1)))
-
-module _ (m : State) (v a : ℕ) where
+module _ (m : State) (v a : ℕ) (c : Came m) where
   serves : (i : ℕ) → i < 256 → eligible m v a i ≡ true → Serves m v a i
-  unfolding eligible
   serves i h e =
-      let b = and-both _ _ e in
-      let c = and-both _ _ (b .1) in
-      let d = covers-is (ruleAt m i) a .0 (c .1) in
-      record { number = h; alive = b .0; here = eqb-true _ _ (c .0); from = d .0; below = d .1 }
+      let f = fit m (sound m c) v a i e in
+      let d = covers-is (ruleAt m i) a .0 (f .over) in
+      record { number = h; alive = f .alive; here = f .here; from = d .0; below = d .1 }
 
   eligible-is : (i : ℕ) → Serves m v a i → eligible m v a i ≡ true
   unfolding eligible
   eligible-is i s = rw (s .alive, eq-eqb _ _ (s .here), covers-is (ruleAt m i) a .1 (s .from, s .below))
 
-  module _ (S : Sound m) where
-    -- no rule serves, or the winner outranks every other that does
-    pub served : ((winner m v a ≡ 256) × ((i : ℕ) → Serves m v a i → ⊥)) ⊎ Outranks m v a (winner m v a)
-    served = go (wins m S v a)
-      where
-        go : ((winner m v a ≡ 256) × ((i : ℕ) → i < 256 → eligible m v a i ≡ true → ⊥)) ⊎ Wins (eligible m v a) (λ i. rank (ruleAt m i)) 256 (winner m v a)
-            → ((winner m v a ≡ 256) × ((i : ℕ) → Serves m v a i → ⊥)) ⊎ Outranks m v a (winner m v a)
-        go (inl x) = inl (x .0, λ i s. x .1 i (s .number) (eligible-is i s))
-        go (inr x) = inr (record { serves = serves _ (x .within) (x .fits); highest = λ i s n. x .highest i (s .number) (eligible-is i s) n })
-
-    -- one rule at most does so
-    pub outranks-once : (w u : ℕ) → Outranks m v a w → Outranks m v a u → w ≡ u
-    outranks-once w u x y = wins-once (eligible m v a) (λ i. rank (ruleAt m i)) 256 w u (win w x) (win u y)
-      where
-        win : (w : ℕ) → Outranks m v a w → Wins (eligible m v a) (λ i. rank (ruleAt m i)) 256 w
-        win w o = record { within = o .serves .number; fits = eligible-is w (o .serves); highest = λ i l e n. o .highest i (serves i l e) n }
-
-    pub wins-by : (w : ℕ) → Outranks m v a w → winner m v a ≡ w
-    wins-by w o = ⊎-elim (λ (x : (winner m v a ≡ 256) × ((i : ℕ) → Serves m v a i → ⊥)). absurd (x .1 w (o .serves))) (λ x. outranks-once (winner m v a) w x o) served
-
-    pub wins-none : ((i : ℕ) → Serves m v a i → ⊥) → winner m v a ≡ 256
-    wins-none f = ⊎-elim (λ (x : (winner m v a ≡ 256) × ((i : ℕ) → Serves m v a i → ⊥)). x .0) (λ x. absurd (f (winner m v a) (x .serves))) served
-
-module _ (m : State) (v a : ℕ) (c : Came m) where
   -- THE LAW: rule w is the winner exactly when it serves the address at the node and outranks every other that does
   pub winner-is : (w : ℕ) → w < 256 → (winner m v a ≡ w) ↔ Outranks m v a w
-  winner-is w h = (λ e. go e (served m v a (sound m c)), wins-by m v a (sound m c) w)
+  winner-is w h = (λ e. there (rw e at (wins m (sound m c) v a)), λ o. winner-only m (sound m c) v a w (inr (back o)))
     where
-      go : winner m v a ≡ w → ((winner m v a ≡ 256) × ((i : ℕ) → Serves m v a i → ⊥)) ⊎ Outranks m v a (winner m v a) → Outranks m v a w
-      go e (inl x) = absurd (omega (arith, x .0))
-      go e (inr x) = rw e at x
+      there : Winner m v a w → Outranks m v a w
+      there (inl x) = absurd (omega (arith, x .0))
+      there (inr x) = record { serves = serves w (x .within) (x .fits); highest = λ i s n. x .highest i (s .number) (eligible-is i s) n }
+
+      back : Outranks m v a w → Wins (eligible m v a) (λ i. rank (ruleAt m i)) 256 w
+      back o = record { within = h; fits = eligible-is w (o .serves); highest = λ i l e n. o .highest i (serves i l e) n }
 
   -- there is no winner exactly when no rule serves the address at the node
   pub no-winner : (winner m v a ≡ 256) ↔ ((i : ℕ) → Serves m v a i → ⊥)
-  no-winner = (λ e. go e (served m v a (sound m c)), wins-none m v a (sound m c))
+  no-winner = (λ e. there (rw e at (wins m (sound m c) v a)), λ f. winner-only m (sound m c) v a 256 (inl (refl, λ i h e. f i (serves i h e))))
     where
-      go : winner m v a ≡ 256 → ((winner m v a ≡ 256) × ((i : ℕ) → Serves m v a i → ⊥)) ⊎ Outranks m v a (winner m v a) → (i : ℕ) → Serves m v a i → ⊥
-      go e (inl x) = x .1
-      go e (inr x) = absurd (omega (arith, x .serves .number))
+      there : Winner m v a 256 → (i : ℕ) → Serves m v a i → ⊥
+      there (inl x) i s = x .1 i (s .number) (eligible-is i s)
+      there (inr x) i s = omega (arith, x .within)
 
   -- no ties: of two rules that serve one address at one node, one outranks the other
   pub no-tie : (i j : ℕ) → Serves m v a i → Serves m v a j → rank (ruleAt m i) ≡ rank (ruleAt m j) → i ≡ j
   no-tie i j s t e =
       sound m c .distinct i j (s .number) (t .number) (s .alive) (t .alive) (s .here ∙ sym (t .here)) e
-      (overlap-is _ _ .1 (a, covers-is _ a .1 (s .from, s .below), covers-is _ a .1 (t .from, t .below)))
+      (both-cover _ _ a (covers-is _ a .1 (s .from, s .below)) (covers-is _ a .1 (t .from, t .below)))
 
 -- ---- the rules
 
@@ -177,8 +147,7 @@ module _ (m : State) (c : Came m) (r l p n t : ℕ) (F : Sized l p t) (ok : refu
 -- an accepted remove takes its rule out, and every other rule stays
 module _ (m : State) (c : Came m) (r : ℕ) (ok : refusal m (remove r) ≡ none) where
   small : r < 256
-  unfolding refusal
-  small = omega (arith, ltb-false 255 r (when-none _ _ _ ok .0))
+  small = clear-remove m r ok .number
 
   pub remove-frees : live (ruleAt (leaves m (remove r)) r) ≡ false
   unfolding leaves live

@@ -1,15 +1,15 @@
 -- Laws of the words: what a rule's and a link's word says, and how large a record's fields are.
 -- Assumes nothing.
-use mathlib.Core.Path.{_≡_, refl, sym, ap, _∙_, subst}
+use mathlib.Core.Path.{_≡_, refl, sym, ap, _∙_}
 use mathlib.Core.List.{List, [], _∷_}
-use mathlib.Core.Bool.{Bool, true, false, not}
+use mathlib.Core.Bool.{true, false, not}
 use Prim.Native.Nat.{ℕ, zero, suc, _+_, _-_, _*_, _/_, _%_, _^_, _≤_, _<_}
-use native.Mathlib.Nat.{mod-lt, zero-lt-suc, div-add-mod', mul-le-mul-right, lt-of-mul-lt-mul-right, suc-mul, pow-suc, one-mul, mod-eq-of-lt}
+use native.Mathlib.Nat.{mod-lt, zero-lt-suc, div-add-mod', mul-le-mul-right, lt-of-mul-lt-mul-right, suc-mul, pow-suc}
 use native.Mathlib.Omega.{arith}
-use lib.Dec.{eqb, leb, ltb}
-use lib.Pow.{pow-pos, pow-add, pow-lt, pow-mono}
+use lib.Dec.{ltb}
+use lib.Pow.{pow-add, pow-mono}
 use lib.ListN.{getD}
-use borrow.Author.Tests.{eq-eqb, ne-eqb, le-leb, lt-leb}
+use borrow.Author.Tests.{eq-eqb, ne-eqb, eqb-true, le-leb, lt-leb, not-false}
 use Rattle.meaning.specs.Rule.{lengthOf, ruleWord, live, linkOf, rank, lower, upper, covers}
 use Rattle.meaning.specs.Hall.{State, sourceOf, endNumber, linkWord}
 use Rattle.meaning.specs.declared.End.{End}
@@ -18,6 +18,7 @@ use Rattle.meaning.specs.Winner.{ruleAt, eligible}
 use Rattle.meaning.specs.declared.Record.{Record}
 use Rattle.meaning.specs.declared.Record.the-variants.{Hall as hall, Link as link, Close as close, Insert as insert, Remove as remove, Loop as loop, Fate as fate, Reach as reach, Tally as tally}
 use Rattle.meaning.specs.Records.{number, recordOf}
+use Rattle.meaning.proofs.Bits.{shifted, mask}
 
 module _ (l p n t : ℕ) (hl : l < 64) (hp : p < 2 ^ 32) (hn : n ≤ 32) (ht : t < 2 ^ 16) where
   pub link-of : linkOf (ruleWord l p n t) ≡ l
@@ -110,14 +111,19 @@ fits s = go (getD s 0 0)
     go (suc (suc (suc (suc (suc (suc (suc (suc (suc zero))))))))) = tt
     go (suc (suc (suc (suc (suc (suc (suc (suc (suc (suc k)))))))))) = tt
 
+-- the word of a rule that is not live
+pub free-zero : (w : ℕ) → live w ≡ false → w ≡ 0
+unfolding live
+free-zero w e = eqb-true w 0 (not-false _ e)
+
 -- ---- for code: `covers` and `eligible` by the tests on the way
 
 -- a one shifted by some of the 64 places
 pub shl-at : (k : ℕ) → k < 64 → 1 * 2 ^ k % 2 ^ 64 ≡ 2 ^ k
-shl-at k h = ap (λ (x : ℕ). x % 2 ^ 64) (one-mul (2 ^ k)) ∙ mod-eq-of-lt (pow-lt {i = k} {j = 64} h)
+shl-at = shifted 64
 
 pub shl : (n : ℕ) → 1 * 2 ^ (n % 64) % 2 ^ 64 ≡ 2 ^ (n % 64)
-shl n = shl-at (n % 64) (mod-lt n (zero-lt-suc 63))
+shl = mask
 
 pub shl-le : (n : ℕ) → 1 * 2 ^ (n % 64) % 2 ^ 64 ≤ 2 ^ 63
 shl-le n = rw shl (pow-mono {i = n % 64} {j = 63} (omega arith))

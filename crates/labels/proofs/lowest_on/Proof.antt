@@ -9,8 +9,7 @@ use lib.ListN.{getD}
 use borrow.Author.Tests.{lt-ltb, le-ltb}
 use Rattle.meaning.specs.Search.{found}
 use Rattle.meaning.specs.Labels.{on, lowestOn}
-use Rattle.meaning.proofs.Below.{lowest-is}
-use Rattle.meaning.proofs.Numbered.{lowest-off}
+use Rattle.meaning.proofs.Searches.{lowest-off, lowest-first}
 use Rattle.meaning.proofs.LabelWords.{none-below, there}
 use borrow.Author.Needs.{needs}
 use Rattle.labels.proofs.lowest_on.Statement.{statement}
@@ -59,7 +58,7 @@ returns-2 c =
     let p = c .before .before .before in
     let a = p .before .before .args in
     rw (lt-ltb _ _ (p .before .if1 .left))
-    (sym (lowest-is _ 512 _ (omega arith) (there (now (a .label)) (a .link) (p .loop .i) (c .if2 .taken)) (none-below (now (a .label)) (a .link) (p .loop .i) (p .loop .inv .1))))
+    (sym (lowest-first _ 512 _ (omega arith) (there (now (a .label)) (a .link) (p .loop .i) (c .if2 .taken)) (none-below (now (a .label)) (a .link) (p .loop .i) (p .loop .inv .1))))
 
 add-i : tie.Need-add-i Inv-loop μ-loop
 add-i c = search needs
