@@ -14,3 +14,7 @@ pub record Room (out : List ℕ) (end : ℕ) : Type 0 where
 -- the entries that an answer counts stand in the change list, five words each
 pub record Listed (a : Answer) (list : List ℕ) : Type 0 where
   pub entries : (n : ℕ) → a ≡ Changed n → n * 5 ≤ length list
+
+-- so many entries an answer counts at most: they stand in every list in which its own do
+pub record EntriesOf (a : Answer) (n : ℕ) : Type 0 where
+  pub stand : (list : List ℕ) → Listed a list → n * 5 ≤ length list

@@ -5,7 +5,7 @@ use meaning::Hall;
 ghost use Prim.Native.Nat.{_+_, _*_, _≤_};
 ghost use lib.ListN.{length};
 ghost use Rattle.meaning.specs.Box.{stateOf, Held};
-ghost use Rattle.hallcheck.specs.Room.{Room, Listed};
+ghost use Rattle.hallcheck.specs.Room.{Room, Listed, EntriesOf};
 
 // Whether standard input has a byte more.
 fn is_more() -> bool {
@@ -57,6 +57,16 @@ fn print_changes(out: &mut [u8], from: usize, list: &[u64], count: usize) -> usi
     end
 }
 
+// How many entries of the change list an answer counts.
+fn entries_of(answer: Answer) -> usize
+    ensures { λ r. ⌜ EntriesOf answer r ⌝ }
+{
+    match answer {
+        Answer::Changed(count) => count as usize,
+        _ => 0,
+    }
+}
+
 // A record's line, and the entries of its change list. "End" prints nothing.
 fn print_answer(out: &mut [u8], end: usize, place: u64, answer: Answer, list: &[u64]) -> usize
     requires { ⌜ Room (now out) end ⌝ }
@@ -65,14 +75,10 @@ fn print_answer(out: &mut [u8], end: usize, place: u64, answer: Answer, list: &[
 {
     match answer {
         Answer::End => end,
-        Answer::Changed(count) => {
-            let at = make_room(out, end);
-            let next = print::put_line(out, at, place, answer);
-            print_changes(out, next, list, count as usize)
-        }
         _ => {
             let at = make_room(out, end);
-            print::put_line(out, at, place, answer)
+            let next = print::put_line(out, at, place, answer);
+            print_changes(out, next, list, entries_of(answer))
         }
     }
 }

@@ -109,7 +109,7 @@ or-bits a b j = ap (λ (x : ℕ). eqb x 1) (bit-or a b j ∙ ap₂ max (tested a
 pub and-bits : (a b j : ℕ) → eqb (bit (bitAnd a b) j) 1 ≡ eqb (bit a j) 1 && eqb (bit b j) 1
 and-bits a b j = ap (λ (x : ℕ). eqb x 1) (bit-and a b j ∙ ap₂ min (tested a j) (tested b j)) ∙ and-digit (eqb (bit a j) 1) (eqb (bit b j) 1)
 
-not-bits : (n b j : ℕ) → b < 2 ^ n → j < n → eqb (bit (2 ^ n - 1 - b) j) 1 ≡ not (eqb (bit b j) 1)
+pub not-bits : (n b j : ℕ) → b < 2 ^ n → j < n → eqb (bit (2 ^ n - 1 - b) j) 1 ≡ not (eqb (bit b j) 1)
 not-bits n b j hb hj = ap (λ (x : ℕ). eqb x 1) (bit-not n b j hb hj ∙ ap (λ (x : ℕ). 1 - x) (tested b j)) ∙ not-digit (eqb (bit b j) 1)
 
 pub without-bits : (a b j : ℕ) → b < 2 ^ 64 → j < 64 → eqb (bit (bitAnd a (2 ^ 64 - 1 - b)) j) 1 ≡ eqb (bit a j) 1 && not (eqb (bit b j) 1)

@@ -8,10 +8,11 @@ use Rattle.meaning.specs.declared.Answer.{Answer}
 use Rattle.meaning.specs.declared.Found.{Found}
 use Rattle.meaning.specs.declared.Found.the-variants.{At, Nothing}
 use Rattle.meaning.specs.declared.Hall.{Hall}
+use Rattle.meaning.specs.declared.Read.{Read}
 use Rattle.meaning.specs.Search.{found}
 use Rattle.meaning.specs.Hall.{State, fresh}
 use Rattle.meaning.specs.Labels.{labelsOf, ownersOf, lowestOn}
-use Rattle.meaning.specs.Box.{Left, stateOf, left, leftOf, ranOf}
+use Rattle.meaning.specs.Box.{Left, stateOf, left, leftFor, leftOf, ranOf}
 use Rattle.meaning.proofs.Said.{Same, left-once}
 
 -- what the box holds when a function returns: the struct and the tables
@@ -44,7 +45,7 @@ lent-once x y e l o = λ i. record {
   owner = o i;
 }
 
--- what `take_record` and `run_stream` return and leave: the answer, the count (of bytes, of records), the box and the lent list
+-- what `take_record`, `take_insert`, `take_remove` and `run_stream` return and leave: the answer, the count (of bytes, of records), the box and the lent list
 pub record Outcome : Type 0 where
   pub answer : Answer
   pub count : ℕ
@@ -63,6 +64,10 @@ outcome-once x y e =
 -- `hall::take_record` on the state m, the lent list and the bytes
 pub take-record-once : (m : State) (list bytes : List ℕ) (x y : Outcome) → leaves x ≡ leftOf m list bytes → leaves y ≡ leftOf m list bytes → x ≡ y
 take-record-once m list bytes x y p q = outcome-once x y (p ∙ sym q)
+
+-- `tables::take_insert` and `tables::take_remove` on the state m, the lent list and the record that was read
+pub left-for-once : (m : State) (list : List ℕ) (read : Read) (x y : Outcome) → leaves x ≡ leftFor m list read → leaves y ≡ leftFor m list read → x ≡ y
+left-for-once m list read x y p q = outcome-once x y (p ∙ sym q)
 
 -- `stream::run_stream` on the lent list and the bytes
 pub run-stream-once : (list bytes : List ℕ) (x y : Outcome) → leaves x ≡ ranOf list bytes → leaves y ≡ ranOf list bytes → x ≡ y
@@ -90,7 +95,7 @@ finds Nothing = λ j. Nothing
 pub lowest-on-once : (label : List ℕ) (l : ℕ) (x y : Found) → found x ≡ lowestOn label l → found y ≡ lowestOn label l → x ≡ y
 lowest-on-once label l x y p q = sym (finds x) ∙ ap foundAs (p ∙ sym q) ∙ finds y
 
--- every other public function ensures an equation for its whole result: `atoms_on`, `read_record`, `read_at`, `read_through`;
+-- every other public function ensures an equation for its whole result: `reply`, `atom_of`, `source_of`, `atoms_on`, `read_record`, `read_at`, `read_through`;
 -- and `reader_over` and `next_record` one for each field of what they leave
 pub equation-once : {A : Type 0} (specified x y : A) → x ≡ specified → y ≡ specified → x ≡ y
 equation-once specified x y p q = p ∙ sym q

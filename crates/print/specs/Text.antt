@@ -2,7 +2,7 @@
 -- Assumes nothing: these are definitions.
 use mathlib.Core.Path.{_≡_}
 use mathlib.Core.List.{List, [], _∷_, _++_}
-use Prim.Native.Nat.{ℕ, zero, suc, _+_, _*_, _/_, _%_, _≤_}
+use Prim.Native.Nat.{ℕ, zero, suc, _+_, _*_, _/_, _%_, _<_, _≤_}
 use lib.Dec.{ltb}
 use lib.ListN.{length}
 use lib.Seq.{sets}
@@ -39,3 +39,9 @@ pub record Wrote (most : ℕ) (text old new : List ℕ) (at next : ℕ) : Type 0
   pub moved : next ≡ at + length text
   pub kept : length new ≡ length old
   pub near : next ≤ at + most
+
+-- THE CONTRACT of the public functions, for any buffer and any place: with so much room from the place on the text is written; with less the
+-- buffer and the place stay.
+pub record WroteIfRoom (most : ℕ) (text old new : List ℕ) (at next : ℕ) : Type 0 where
+  pub fits : at + most ≤ length old → Wrote most text old new at next
+  pub full : length old < at + most → (new ≡ old) × (next ≡ at)

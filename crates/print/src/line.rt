@@ -3,15 +3,27 @@ ghost use mathlib.Core.Path.{_≡_};
 ghost use mathlib.Core.List.{[], _∷_, _++_};
 ghost use Prim.Native.Nat.{_+_, _<_, _≤_};
 ghost use lib.ListN.{length};
-ghost use Rattle.print.specs.Text.{Wrote, decimal};
+ghost use lib.Dec.{ltb};
+ghost use Rattle.print.specs.Text.{Wrote, WroteIfRoom, decimal};
 ghost use Rattle.print.specs.Lines.{line, change, linkText};
 ghost use Rattle.meaning.specs.declared.Answer.the-variants.{Tally, Went};
+use crate::ROOM;
 use crate::number::put_byte;
 use crate::number::put_number;
 use crate::number::put_short;
 use crate::number::put_text;
 use meaning::Answer;
 use meaning::Fate;
+
+// Whether there is less room than a line asks for from the place on.
+fn is_full(buf: &[u8], at: usize) -> bool
+    ensures { λ r. ⌜ r ≡ ltb (length (now (buf .entry))) (at + 128) ⌝ }
+{
+    if buf.len() < ROOM {
+        return true;
+    }
+    buf.len() - ROOM < at
+}
 
 // A record's place, and the text behind it.
 fn put_start(buf: &mut [u8], at: usize, place: u64, text: &[u8]) -> usize
@@ -86,8 +98,8 @@ fn put_fate(buf: &mut [u8], at: usize, place: u64, fate: Fate) -> usize
     }
 }
 
-// A record's line.
-pub fn put_line(buf: &mut [u8], at: usize, place: u64, answer: Answer) -> usize
+// A record's line, where there is room for it.
+fn write_line(buf: &mut [u8], at: usize, place: u64, answer: Answer) -> usize
     requires { ⌜ at + 128 ≤ length (now buf) ⌝ }
     ensures { λ r. ⌜ Wrote 128 (line place answer) (now (buf .entry)) (now (buf .exit)) at r ⌝ }
 {
@@ -105,8 +117,18 @@ pub fn put_line(buf: &mut [u8], at: usize, place: u64, answer: Answer) -> usize
     }
 }
 
-// The line of an entry of a change list.
-pub fn put_change(
+// A record's line. Where there is too little room for one, nothing is written.
+pub fn put_line(buf: &mut [u8], at: usize, place: u64, answer: Answer) -> usize
+    ensures { λ r. ⌜ WroteIfRoom 128 (line place answer) (now (buf .entry)) (now (buf .exit)) at r ⌝ }
+{
+    if is_full(buf, at) {
+        return at;
+    }
+    write_line(buf, at, place, answer)
+}
+
+// The line of an entry of a change list, where there is room for it.
+fn write_change(
     buf: &mut [u8],
     at: usize,
     atom: u64,
@@ -124,4 +146,22 @@ pub fn put_change(
     let third = put_field(buf, second, upper, b' ');
     let fourth = put_link(buf, third, old, b' ');
     put_link(buf, fourth, new, b'\n')
+}
+
+// The line of an entry of a change list. Where there is too little room for one, nothing is written.
+pub fn put_change(
+    buf: &mut [u8],
+    at: usize,
+    atom: u64,
+    lower: u64,
+    upper: u64,
+    old: u64,
+    new: u64,
+) -> usize
+    ensures { λ r. ⌜ WroteIfRoom 128 (change atom lower upper old new) (now (buf .entry)) (now (buf .exit)) at r ⌝ }
+{
+    if is_full(buf, at) {
+        return at;
+    }
+    write_change(buf, at, atom, lower, upper, old, new)
 }

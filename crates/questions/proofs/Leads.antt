@@ -1,7 +1,7 @@
 -- Leads by links that have an atom: how they are gathered, and what they show of the walks of all atoms. Assumes nothing.
 use mathlib.Core.Path.{_≡_, refl, sym, ap, ap₂, _∙_}
 use mathlib.Core.Logic.{⊎-elim}
-use mathlib.Core.Bool.{Bool, true, false, not, true≢false}
+use mathlib.Core.Bool.{Bool, true, false, not, true≢false, _||_}
 use mathlib.Core.List.{List}
 use mathlib.Core.Option.{Option}
 use Prim.Native.Nat.{ℕ, zero, suc, _+_, _-_, _*_, _/_, _%_, _^_, _≤_, _<_}
@@ -9,7 +9,7 @@ use native.Mathlib.Nat.{mod-eq-of-lt, add-zero}
 use native.Mathlib.Decide.{ℕ-discrete, decLt}
 use native.Mathlib.Omega.{arith}
 use borrow.Author.Count.{below-more}
-use lib.Bits.{bitOr, bitAnd, or-add-and, and-le-l, and-le-r}
+use lib.Bits.{bitOr, bitAnd, or-comm, or-add-and, and-le-l, and-le-r}
 use lib.Dec.{eqb}
 use lib.ListN.{length, getD, set}
 use lib.Seq.{getD-set-same, getD-set-other}
@@ -21,17 +21,17 @@ use Rattle.meaning.specs.Labels.{bit, on}
 use Rattle.meaning.specs.Questions.{byAddress}
 use Rattle.meaning.specs.Walk.{at, leave, move, after, standsAt, onCircle, comesTo}
 use Rattle.meaning.proofs.Places.{le-or-lt}
-use Rattle.meaning.proofs.Bits.{bit-of-zero}
+use Rattle.meaning.proofs.Bits.{bit-of-zero, or-bits, not-bits}
 use Rattle.meaning.proofs.Members.{any-true, any-some}
 use Rattle.meaning.proofs.Means.{stands-at, at-stands}
-use Rattle.meaning.proofs.Walks.{after-add, going-le}
+use Rattle.meaning.proofs.Walks.{after-add, after-suc, going-le}
 use Rattle.meaning.proofs.Circles.{round-again}
 use Rattle.meaning.proofs.Owners.{ownerIn, via, nextIn, endIn, Whole}
 use Rattle.meaning.proofs.Moving.{among, in-none, in-all, in-either, in-both, in-alone, in-new, in-old, Off, NotYet, no-owner, to-node, to-end}
 use Rattle.meaning.proofs.Labelled.{starts}
 use Rattle.meaning.proofs.ByPlace.{small-atom, ends-of, loop-none, reach-none}
 use Rattle.questions.specs.Moves.{Comes}
-use Rattle.questions.specs.Leads.{Empty, leadsTo, Leads, Joined, Onward, OffLeads, Widened, TowardLeads, Together, OffWalks, TowardWalks}
+use Rattle.questions.specs.Leads.{Empty, leadsTo, Leads, Joined, Circular, OffLeads, Met, Widened, TowardLeads, Together, OffWalks, TowardWalks}
 
 -- what is true and false at once
 both : {t : Bool} → t ≡ true → t ≡ false → ⊥
@@ -115,16 +115,55 @@ module _ (link label lead : List ℕ) (l : ℕ) (L : Leads link label l lead) wh
 pub off-none : (lead : List ℕ) → OffLeads lead 0
 off-none lead = record { none-in = λ C o v e. absurd (in-none v e) }
 
--- a node joins that leads to none but such nodes
+-- a node joins that leads to none but such nodes: nothing new is met
 pub off-more : (lead : List ℕ) (off v : ℕ) → v < 16 → OffLeads lead off → bitOr (getD lead v 0) off ≡ off → OffLeads lead (bitOr off (1 * 2 ^ v % 65536))
 off-more lead off v h O e = record { none-in = λ C o x i. ⊎-elim (O .none-in C o x) (λ (q : v ≡ x). ap C (sym q) ∙ go C o (C v) refl) (in-old off v h x i) }
   where
-    go : (C : ℕ → Bool) → Onward lead C → (t : Bool) → C v ≡ t → C v ≡ false
+    go : (C : ℕ → Bool) → Circular lead C → (t : Bool) → C v ≡ t → C v ≡ false
     go C o false f = f
     go C o true f =
         let r = o .on v f in
         let i : among off (r .0) ≡ true = rw e at (in-either (getD lead v 0) off (r .0) (r .2)) in
         absurd (both (r .1) (O .none-in C o (r .0) i))
+
+pub met-none : (lead : List ℕ) (off : ℕ) → Met lead off 0 0
+met-none lead off = record { led = λ v u h. absurd (omega arith) }
+
+module _ (lead : List ℕ) (off v met : ℕ) (M : Met lead off v met) where
+  pub met-off : v < 16 → Met lead (bitOr off (1 * 2 ^ v % 65536)) (v + 1) met
+  met-off h = record { led = λ x u l f e. go x u l f e (ℕ-discrete x v) (among off x) refl }
+    where
+      go : (x u : ℕ) → x < v + 1 → among (bitOr off (1 * 2 ^ v % 65536)) x ≡ false → leadsTo lead x u ≡ true → Dec (x ≡ v) → (t : Bool) → among off x ≡ t → among met u ≡ true
+      go x u l f e (yes q) t g = absurd (both (rw q (in-new off v h)) f)
+      go x u l f e (no n) true g = absurd (both (in-either off (1 * 2 ^ v % 65536) x g) f)
+      go x u l f e (no n) false g = M .led x u (omega arith) g e
+
+  pub met-more : Met lead off (v + 1) (bitOr met (getD lead v 0))
+  met-more = record { led = λ x u l f e. go x u l f e (ℕ-discrete x v) }
+    where
+      go : (x u : ℕ) → x < v + 1 → among off x ≡ false → leadsTo lead x u ≡ true → Dec (x ≡ v) → among (bitOr met (getD lead v 0)) u ≡ true
+      go x u l f e (yes q) = rw or-comm (in-either (getD lead v 0) met u (rw q at e))
+      go x u l f e (no n) = in-either met (getD lead v 0) u (M .led x u (omega arith) f e)
+
+-- a node joins to which none but such nodes lead
+pub off-unmet : (lead : List ℕ) (off met : ℕ) → OffLeads lead off → Met lead off 16 met → OffLeads lead (bitOr off (65535 - met))
+off-unmet lead off met O M = record { none-in = λ C o v i. go C o v (among off v) refl (C v) refl (rw (or-bits off (65535 - met) v) at i) }
+  where
+    unmet : (v : ℕ) → v < 16 → among met v ≡ true → among (65535 - met) v ≡ true → Dec (met < 65536) → ⊥
+    unmet v l g i (yes h) = both i (not-bits 16 met v h l ∙ ap not g)
+    unmet v l g i (no h) = let z : 65535 - met ≡ 0 = omega arith in in-none v (rw z at i)
+
+    free : (C : ℕ → Bool) → Circular lead C → (u : ℕ) → C u ≡ true → (b : Bool) → among off u ≡ b → among off u ≡ false
+    free C o u c true q = absurd (both c (O .none-in C o u q))
+    free C o u c false q = q
+
+    go : (C : ℕ → Bool) → Circular lead C → (v : ℕ) → (a : Bool) → among off v ≡ a → (t : Bool) → C v ≡ t → a || among (65535 - met) v ≡ true → t ≡ false
+    go C o v true e t f i = sym f ∙ O .none-in C o v e
+    go C o v false e false f i = refl
+    go C o v false e true f i =
+        let r = o .back v f in
+        let g : among met v ≡ true = M .led (r .0) v (o .small (r .0) (r .1)) (free C o (r .0) (r .1) (among off (r .0)) refl) (r .2) in
+        absurd (unmet v (o .small v f) g i (decLt met 65536))
 
 -- ---- nodes that lead to w
 
@@ -204,22 +243,46 @@ module _ (link label lead owner : List ℕ) (L : Leads link label 64 lead) (T : 
       go (yes h) = owned h (ℕ-discrete (ownerIn owner k v) 0)
       go (no h) = absurd (past owner (endIn link) k v u (omega arith) e)
 
-  -- so a node on a circle leads to a node on a circle
-  onward : (n : ℕ) → Onward lead (onCircle (nextIn owner k) (endIn link) n)
+  -- it goes from one of 16 nodes
+  from-node : (v u : ℕ) → move (nextIn owner k) (endIn link) (at v) ≡ at u → v < 16
+  from-node v u e = ⊎-elim (λ (h : 16 ≤ v). absurd (past owner (endIn link) k v u h e)) (λ (h : v < 16). h) (le-or-lt 16 v)
+
+  -- so a node on a circle leads to a node on a circle, and is led to by one
+  circular : (n : ℕ) → Circular lead (onCircle (nextIn owner k) (endIn link) n)
   unfolding onCircle after
-  onward n = record { on = λ v e. go v (any-some (λ i. standsAt v (after (nextIn owner k) (endIn link) (suc i) (at v))) n e) }
+  circular n = record { small = λ v e. first v (turns v e); on = λ v e. next v (turns v e); back = λ v e. last v (turns v e) }
     where
-      go : (v : ℕ) → ((i : ℕ) × (i < n) × (standsAt v (after (nextIn owner k) (endIn link) (suc i) (at v)) ≡ true))
-          → (u : ℕ) × (onCircle (nextIn owner k) (endIn link) n u ≡ true) × (leadsTo lead v u ≡ true)
-      go v r =
-          let back = stands-at v _ (r .2) in
-          let step = going-le (nextIn owner k) (endIn link) (at v) 1 (suc (r .0)) (omega arith) (v, back) in
+      Turns : ℕ → Type 0
+      Turns v = (i : ℕ) × (i < n) × (standsAt v (after (nextIn owner k) (endIn link) (suc i) (at v)) ≡ true)
+
+      turns : (v : ℕ) → onCircle (nextIn owner k) (endIn link) n v ≡ true → Turns v
+      turns v = any-some (λ i. standsAt v (after (nextIn owner k) (endIn link) (suc i) (at v))) n
+
+      -- what the circle passes lies on it
+      passed : (v : ℕ) → (r : Turns v) → (i u : ℕ) → after (nextIn owner k) (endIn link) i (at v) ≡ at u → onCircle (nextIn owner k) (endIn link) n u ≡ true
+      passed v r i u e =
+          any-true (λ i. standsAt u (after (nextIn owner k) (endIn link) (suc i) (at u))) n (r .0) (r .1)
+          (at-stands u _ (round-again (nextIn owner k) (endIn link) v (suc (r .0)) i u (stands-at v _ (r .2)) e))
+
+      first : (v : ℕ) → Turns v → v < 16
+      first v r =
+          let step = going-le (nextIn owner k) (endIn link) (at v) 1 (suc (r .0)) (omega arith) (v, stands-at v _ (r .2)) in
+          from-node v (step .0) (step .1)
+
+      next : (v : ℕ) → Turns v → (u : ℕ) × (onCircle (nextIn owner k) (endIn link) n u ≡ true) × (leadsTo lead v u ≡ true)
+      next v r =
+          let step = going-le (nextIn owner k) (endIn link) (at v) 1 (suc (r .0)) (omega arith) (v, stands-at v _ (r .2)) in
+          (step .0, passed v r 1 (step .0) (step .1), moved v (step .0) (step .1) .1)
+
+      last : (v : ℕ) → Turns v → (u : ℕ) × (onCircle (nextIn owner k) (endIn link) n u ≡ true) × (leadsTo lead u v ≡ true)
+      last v r =
+          let step = going-le (nextIn owner k) (endIn link) (at v) (r .0) (suc (r .0)) (omega arith) (v, stands-at v _ (r .2)) in
           let u : ℕ = step .0 in
-          let on = round-again (nextIn owner k) (endIn link) v (suc (r .0)) 1 u back (step .1) in
-          (u, any-true (λ i. standsAt u (after (nextIn owner k) (endIn link) (suc i) (at u))) n (r .0) (r .1) (at-stands u _ on), moved v u (step .1) .1)
+          let e = sym (ap (move (nextIn owner k) (endIn link)) (step .1)) ∙ sym (after-suc (nextIn owner k) (endIn link) (r .0) (at v)) ∙ stands-at v _ (r .2) in
+          (u, passed v r (r .0) u (step .1), moved u v e .1)
 
   pub off-of : (n off : ℕ) → OffLeads lead off → Off (nextIn owner k) (endIn link) n off
-  off-of n off O = record { none-on = O .none-in (onCircle (nextIn owner k) (endIn link) n) (onward n) }
+  off-of n off O = record { none-on = O .none-in (onCircle (nextIn owner k) (endIn link) n) (circular n) }
 
   pub comes-of : (w to : ℕ) → TowardLeads lead w to → Comes (nextIn owner k) (endIn link) w to
   unfolding after

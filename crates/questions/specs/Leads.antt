@@ -31,13 +31,19 @@ pub record Joined (before after : List ℕ) (v u : ℕ) : Type 0 where
 
 -- ---- circles of leads
 
--- each node of C leads to a node of C
-pub record Onward (lead : List ℕ) (C : ℕ → Bool) : Type 0 where
+-- each node of C is one of 16, leads to a node of C, and is led to by one: so it is where C has the nodes of circles
+pub record Circular (lead : List ℕ) (C : ℕ → Bool) : Type 0 where
+  pub small : (v : ℕ) → C v ≡ true → v < 16
   pub on : (v : ℕ) → C v ≡ true → (u : ℕ) × (C u ≡ true) × (leadsTo lead v u ≡ true)
+  pub back : (v : ℕ) → C v ≡ true → (u : ℕ) × (C u ≡ true) × (leadsTo lead u v ≡ true)
 
--- none of these nodes lies on a circle of leads, nor leads into one: none is in a set whose nodes each lead to a node of the set
+-- none of these nodes lies on a circle of leads
 pub record OffLeads (lead : List ℕ) (off : ℕ) : Type 0 where
-  pub none-in : (C : ℕ → Bool) → Onward lead C → (v : ℕ) → among off v ≡ true → C v ≡ false
+  pub none-in : (C : ℕ → Bool) → Circular lead C → (v : ℕ) → among off v ≡ true → C v ≡ false
+
+-- `met` has each node to which a node leads that is below n and none of `off`
+pub record Met (lead : List ℕ) (off n met : ℕ) : Type 0 where
+  pub led : (v u : ℕ) → v < n → among off v ≡ false → leadsTo lead v u ≡ true → among met u ≡ true
 
 -- ---- what leads to a node
 

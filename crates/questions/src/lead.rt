@@ -59,20 +59,23 @@ fn leads(link: &[u16; 64], label: &[u64; 512], lead: &mut [u16; 16])
     }
 }
 
-// Of the nodes that lie on no circle of leads, more: those that lead to none but such nodes.
+// Of the nodes that lie on no circle of leads, more: those that lead to none but such nodes, and those to which none but such nodes lead.
 fn off_once(lead: &[u16; 16], off: u16) -> u16
     requires { ⌜ OffLeads (now lead) off ⌝ }
     ensures { λ r. ⌜ OffLeads (now (lead .entry)) r ⌝ }
 {
     let mut more = off;
+    let mut met: u16 = 0;
     let mut v: usize = 0;
     while v < 16 {
         if lead[v] | more == more {
             more |= 1u16 << v;
+        } else {
+            met |= lead[v];
         }
         v += 1;
     }
-    more
+    more | !met
 }
 
 // Nodes that lie on no circle of leads.

@@ -78,7 +78,10 @@ loop-less : tie.Need-loop-less Inv-loop μ-loop
 loop-less c = search needs
 
 loop-again : tie.Need-loop-again Inv-loop μ-loop
-loop-again c = search needs
+loop-again c =
+    let w = c .before .before in
+    let m = w .before .before .before .before .before .before .before in
+    search (needs, w .put-change .ensures .fits (m .make-room .ensures))
 
 same-length : tie.Need-same-length Inv-loop μ-loop
 same-length c = search needs

@@ -1,71 +1,38 @@
 -- `print::line::put_change` meets its contract. Assumes nothing.
 use borrow.Author.Needs.{needs}
-use mathlib.Core.Path.{refl}
-use mathlib.Core.List.{[], _∷_}
-use native.Mathlib.Omega.{arith}
-use Rattle.print.specs.Text.{decimal}
-use Rattle.print.specs.Lines.{linkText, change}
-use Rattle.print.proofs.Writes.{both, also}
-use Rattle.print.proofs.Fields.{join}
+use mathlib.Core.Path.{sym, _∙_}
+use borrow.Author.Tests.{ltb-true, ltb-false}
+use Rattle.print.specs.Lines.{change}
+use Rattle.print.proofs.Rooms.{unwritten, written}
 use Rattle.print.proofs.line.put_change.Statement.{statement}
 use Rattle.print.proofs.line.put_change.Tie as tie
 use Rattle.print.proofs.line.put_change.Reads as reads
 use Rattle.print.proofs.line.put_change.Lts as lts
-use Rattle.print.proofs.line.put_field.Reads as put-field-reads
-use Rattle.print.proofs.line.put_link.Reads as put-link-reads
-use Rattle.print.proofs.number.put_text.Reads as put-text-reads
+use Rattle.print.proofs.line.is_full.Reads as is-full-reads
+use Rattle.print.proofs.line.write_change.Reads as write-change-reads
 
-slice-aggregate-put-text : tie.Need-slice-aggregate-put-text
-slice-aggregate-put-text c = search needs
-
-put-text-requires : tie.Need-put-text-requires
-put-text-requires c κs = search needs
-
-put-field-requires : tie.Need-put-field-requires
-put-field-requires c κs = search needs
-
-put-field-requires-2 : tie.Need-put-field-requires-2
-put-field-requires-2 c κs = search needs
-
-put-field-requires-3 : tie.Need-put-field-requires-3
-put-field-requires-3 c κs = search needs
-
-put-link-requires : tie.Need-put-link-requires
-put-link-requires c κs = search needs
-
-put-link-requires-2 : tie.Need-put-link-requires-2
-put-link-requires-2 c κs = search needs
+is-full-requires : tie.Need-is-full-requires
+is-full-requires c κs = search needs
 
 same-length : tie.Need-same-length
 same-length c = search needs
 
 returns : tie.Need-returns
-unfolding change
-returns c =
-    let d₆ = c .before .before in
-    let d₅ = d₆ .before .before .before .before in
-    let d₄ = d₅ .before .before .before .before in
-    let d₃ = d₄ .before .before .before .before in
-    let d₂ = d₃ .before .before .before .before in
-    let d₁ = d₂ .before .before .before .before in
-    let a = d₁ .before .before .before .before .args in
-    also refl (omega arith)
-    (both (d₁ .put-text .ensures)
-    (join (decimal (a .atom)) (32 ∷ []) (d₂ .put-field .ensures)
-    (join (decimal (a .lower)) (32 ∷ []) (d₃ .put-field2 .ensures)
-    (join (decimal (a .upper)) (32 ∷ []) (d₄ .put-field3 .ensures)
-    (join (linkText (a .old)) (32 ∷ []) (d₅ .put-link .ensures) (d₆ .put-link2 .ensures))))))
+returns c = unwritten (ltb-true _ _ (sym (c .before .is-full .ensures) ∙ c .if1 .taken))
+
+write-change-requires : tie.Need-write-change-requires
+write-change-requires c κs = let e = c .before in ltb-false _ _ (sym (e .before .is-full .ensures) ∙ e .if1 .left)
+
+same-length-2 : tie.Need-same-length-2
+same-length-2 c = search needs
+
+returns-2 : tie.Need-returns-2
+returns-2 c =
+    let e = c .before .before .before .before in
+    let a = e .before .before .before .before .args in
+    written {text = change (a .atom) (a .lower) (a .upper) (a .old) (a .new)} (ltb-false _ _ (sym (e .before .is-full .ensures) ∙ e .if1 .left)) (c .before .before .write-change .ensures)
 
 pub put-change-spec : {M : Type 1} → statement M
 put-change-spec =
     tie.close
-    (tie.spec
-    slice-aggregate-put-text
-    put-text-requires
-    put-field-requires
-    put-field-requires-2
-    put-field-requires-3
-    put-link-requires
-    put-link-requires-2
-    same-length
-    returns)
+    (tie.spec is-full-requires same-length returns write-change-requires same-length-2 returns-2)

@@ -1,0 +1,19 @@
+-- `print::line::is_full` meets its contract. Assumes nothing.
+use borrow.Author.Needs.{needs}
+use Rattle.print.proofs.Rooms.{too-short, too-late}
+use Rattle.print.proofs.line.is_full.Statement.{statement}
+use Rattle.print.proofs.line.is_full.Tie as tie
+use Rattle.print.proofs.line.is_full.Reads as reads
+use Rattle.print.proofs.line.is_full.Lts as lts
+
+returns : tie.Need-returns
+returns c = search (needs, too-short)
+
+sub-result : tie.Need-sub-result
+sub-result c = search needs
+
+returns-2 : tie.Need-returns-2
+returns-2 c = search (needs, too-late)
+
+pub is-full-spec : {M : Type 1} → statement M
+is-full-spec = tie.close (tie.spec returns sub-result returns-2)

@@ -1,0 +1,71 @@
+-- `print::line::write_change` meets its contract. Assumes nothing.
+use borrow.Author.Needs.{needs}
+use mathlib.Core.Path.{refl}
+use mathlib.Core.List.{[], _∷_}
+use native.Mathlib.Omega.{arith}
+use Rattle.print.specs.Text.{decimal}
+use Rattle.print.specs.Lines.{linkText, change}
+use Rattle.print.proofs.Writes.{both, also}
+use Rattle.print.proofs.Fields.{join}
+use Rattle.print.proofs.line.write_change.Statement.{statement}
+use Rattle.print.proofs.line.write_change.Tie as tie
+use Rattle.print.proofs.line.write_change.Reads as reads
+use Rattle.print.proofs.line.write_change.Lts as lts
+use Rattle.print.proofs.line.put_field.Reads as put-field-reads
+use Rattle.print.proofs.line.put_link.Reads as put-link-reads
+use Rattle.print.proofs.number.put_text.Reads as put-text-reads
+
+slice-aggregate-put-text : tie.Need-slice-aggregate-put-text
+slice-aggregate-put-text c = search needs
+
+put-text-requires : tie.Need-put-text-requires
+put-text-requires c κs = search needs
+
+put-field-requires : tie.Need-put-field-requires
+put-field-requires c κs = search needs
+
+put-field-requires-2 : tie.Need-put-field-requires-2
+put-field-requires-2 c κs = search needs
+
+put-field-requires-3 : tie.Need-put-field-requires-3
+put-field-requires-3 c κs = search needs
+
+put-link-requires : tie.Need-put-link-requires
+put-link-requires c κs = search needs
+
+put-link-requires-2 : tie.Need-put-link-requires-2
+put-link-requires-2 c κs = search needs
+
+same-length : tie.Need-same-length
+same-length c = search needs
+
+returns : tie.Need-returns
+unfolding change
+returns c =
+    let d₆ = c .before .before in
+    let d₅ = d₆ .before .before .before .before in
+    let d₄ = d₅ .before .before .before .before in
+    let d₃ = d₄ .before .before .before .before in
+    let d₂ = d₃ .before .before .before .before in
+    let d₁ = d₂ .before .before .before .before in
+    let a = d₁ .before .before .before .before .args in
+    also refl (omega arith)
+    (both (d₁ .put-text .ensures)
+    (join (decimal (a .atom)) (32 ∷ []) (d₂ .put-field .ensures)
+    (join (decimal (a .lower)) (32 ∷ []) (d₃ .put-field2 .ensures)
+    (join (decimal (a .upper)) (32 ∷ []) (d₄ .put-field3 .ensures)
+    (join (linkText (a .old)) (32 ∷ []) (d₅ .put-link .ensures) (d₆ .put-link2 .ensures))))))
+
+pub write-change-spec : {M : Type 1} → statement M
+write-change-spec =
+    tie.close
+    (tie.spec
+    slice-aggregate-put-text
+    put-text-requires
+    put-field-requires
+    put-field-requires-2
+    put-field-requires-3
+    put-link-requires
+    put-link-requires-2
+    same-length
+    returns)
