@@ -21,7 +21,7 @@ use Rattle.meaning.specs.Labels.{bit, on}
 use Rattle.meaning.specs.Questions.{byAddress}
 use Rattle.meaning.specs.Walk.{at, leave, move, after, standsAt, onCircle, comesTo}
 use Rattle.meaning.proofs.Places.{le-or-lt}
-use Rattle.meaning.proofs.Bits.{bit-of-zero, or-bits, not-bits}
+use Rattle.meaning.proofs.Bits.{bit-lt, bit-of-zero, or-bits, not-bits}
 use Rattle.meaning.proofs.Members.{any-true, any-some}
 use Rattle.meaning.proofs.Means.{stands-at, at-stands}
 use Rattle.meaning.proofs.Walks.{after-add, after-suc, going-le}
@@ -115,7 +115,7 @@ module _ (link label lead : List ℕ) (l : ℕ) (L : Leads link label l lead) wh
 pub off-none : (lead : List ℕ) → OffLeads lead 0
 off-none lead = record { none-in = λ C o v e. absurd (in-none v e) }
 
--- a node joins that leads to none but such nodes: nothing new is met
+-- a node joins that leads to none but such nodes
 pub off-more : (lead : List ℕ) (off v : ℕ) → v < 16 → OffLeads lead off → bitOr (getD lead v 0) off ≡ off → OffLeads lead (bitOr off (1 * 2 ^ v % 65536))
 off-more lead off v h O e = record { none-in = λ C o x i. ⊎-elim (O .none-in C o x) (λ (q : v ≡ x). ap C (sym q) ∙ go C o (C v) refl) (in-old off v h x i) }
   where
@@ -130,13 +130,12 @@ pub met-none : (lead : List ℕ) (off : ℕ) → Met lead off 0 0
 met-none lead off = record { led = λ v u h. absurd (omega arith) }
 
 module _ (lead : List ℕ) (off v met : ℕ) (M : Met lead off v met) where
-  pub met-off : v < 16 → Met lead (bitOr off (1 * 2 ^ v % 65536)) (v + 1) met
-  met-off h = record { led = λ x u l f e. go x u l f e (ℕ-discrete x v) (among off x) refl }
+  pub met-off : (bit off v ≡ 0 → ⊥) → Met lead off (v + 1) met
+  met-off n = record { led = λ x u l f e. go x u l f e (ℕ-discrete x v) }
     where
-      go : (x u : ℕ) → x < v + 1 → among (bitOr off (1 * 2 ^ v % 65536)) x ≡ false → leadsTo lead x u ≡ true → Dec (x ≡ v) → (t : Bool) → among off x ≡ t → among met u ≡ true
-      go x u l f e (yes q) t g = absurd (both (rw q (in-new off v h)) f)
-      go x u l f e (no n) true g = absurd (both (in-either off (1 * 2 ^ v % 65536) x g) f)
-      go x u l f e (no n) false g = M .led x u (omega arith) g e
+      go : (x u : ℕ) → x < v + 1 → among off x ≡ false → leadsTo lead x u ≡ true → Dec (x ≡ v) → among met u ≡ true
+      go x u l f e (yes q) = absurd (both (eq-eqb (bit off v) 1 (omega (arith, n, bit-lt off v))) (rw q at f))
+      go x u l f e (no d) = M .led x u (omega arith) f e
 
   pub met-more : Met lead off (v + 1) (bitOr met (getD lead v 0))
   met-more = record { led = λ x u l f e. go x u l f e (ℕ-discrete x v) }
