@@ -1,7 +1,7 @@
 -- The owners and the labels entry by entry are those of the state, and what they say of the walk. Assumes nothing.
 use mathlib.Core.Path.{_≡_, refl, sym, ap, ap₂, _∙_, fun-ext}
 use mathlib.Core.Logic.{_⊎_, inl, inr}
-use mathlib.Core.Bool.{Bool, true, false, _&&_}
+use mathlib.Core.Bool.{Bool, true, false}
 use mathlib.Core.List.{List}
 use mathlib.Core.Option.{none, some}
 use Prim.Native.Nat.{ℕ, _+_, _*_, _/_, _%_, _^_, _≤_, _<_}
@@ -26,13 +26,13 @@ use Rattle.meaning.specs.Box.{Held}
 use Rattle.meaning.proofs.Tables.{Holds}
 use Rattle.meaning.proofs.Sound.{Sound, fresh-sound}
 use Rattle.meaning.proofs.Kept.{sound}
-use Rattle.meaning.proofs.Idle.{any-off, labels-idle, owners-idle}
+use Rattle.meaning.proofs.Idle.{labels-idle, owners-idle}
 use Rattle.meaning.proofs.Constant.{same-next}
 use Rattle.meaning.proofs.Ranks.{Wins}
 use Rattle.meaning.proofs.Members.{tab-length, tab-at, labels-length, labels-word, labels-on, on-place}
 use Rattle.meaning.proofs.LabelWords.{same-words}
 use Rattle.meaning.proofs.Means.{fit, wins}
-use Rattle.meaning.proofs.Numbered.{has-place, place-with, place-without}
+use Rattle.meaning.proofs.Numbered.{has-place, place-with, place-without, on-without}
 use Rattle.meaning.proofs.Owners.{ownerIn, via, viaLink, nextIn, endIn, Words, Owned, Agrees, Starts, Whole}
 
 -- ---- the owners
@@ -158,12 +158,6 @@ names-via m w l hl = go (ltb w 256) refl
     go false e = sym (ap (λ (x : ℕ). eqb x l) via-none ∙ ne-eqb 64 l (λ q. omega arith))
 
 module _ (m : State) (S : Sound m) where
-  -- a number that no atom has is on no link
-  past-off : (l k : ℕ) → m .atoms ≤ k → isOn m l k ≡ false
-  unfolding isOn
-  past-off l k h = any-off _ (m .atoms) (λ p hp.
-      ap (λ (t : Bool). t && names (nextAt m (getD (m .cut) p 0) (sourceOf m l)) l) (ne-eqb (getD (m .number) p 0) k (λ e. omega (arith, S .numbers .small p hp))))
-
   -- every link's source is a node, and 0 for a link that is not declared
   pub source-small : (l : ℕ) → sourceOf m l < 16
   source-small l = go (decLt l (m .links))
@@ -188,7 +182,7 @@ module _ (m : State) (S : Sound m) where
       go : Dec (k < m .atoms) → isOn m l k ≡ eqb (via (ownerIn owner k v)) l
       go (yes h) = let r = has-place (S .numbers) k h in rw (r .2) at (at (r .0) (r .1))
       go (no h) =
-          past-off l k (omega arith)
+          on-without m (S .numbers) l k (omega arith)
           ∙ sym (ap (λ (x : ℕ). eqb (via x) l) (O .rest k v (omega arith) hk (source-small l)) ∙ ap (λ (x : ℕ). eqb x l) via-none ∙ ne-eqb 64 l (λ q. omega arith))
 
 labels-words : (m : State) → Words (labelsOf m)

@@ -93,9 +93,6 @@ pub or-false : (a b : Bool) → (a || b) ≡ false → (a ≡ false) × (b ≡ f
 or-false true b e = absurd (true≢false e)
 or-false false b e = (refl, e)
 
-pub and-true : (a b : Bool) → a ≡ true → b ≡ true → (a && b) ≡ true
-and-true a b e f = rw (e, f)
-
 pub any-false : (P : ℕ → Bool) (n : ℕ) → anyBelow n P ≡ false → (i : ℕ) → i < n → P i ≡ false
 unfolding anyBelow
 any-false P zero e i l = absurd (not-suc-le-zero l)
