@@ -105,12 +105,8 @@ module _ (m : State) (label owner : List ℕ) (W : Whole m label owner) where
   unfolding fateOf
   fate-at v a p h = rw (next-is m label owner W a p h, end-is m)
 
-  -- the lower end of a place lies in it
-  pub lower-end : (p : ℕ) → p < m .atoms → Holds (m .cut) (m .atoms) (getD (m .cut) p 0) p
-  lower-end = lower-holds (W .sound .cuts)
-
   links-are : (p : ℕ) → p < m .atoms → linksAt (m .number) owner p ≡ nextAt m (getD (m .cut) p 0)
-  links-are p h = next-is m label owner W (getD (m .cut) p 0) p (lower-end p h)
+  links-are p h = next-is m label owner W (getD (m .cut) p 0) p (lower-holds (W .sound .cuts) p h)
 
   places : (r : Record) → byAddress m r ≡ byPlace m r
   places = by-place m (W .sound .cuts) (W .sound .aligned)
@@ -185,7 +181,7 @@ module _ (m : State) (label owner : List ℕ) (W : Whole m label owner) where
     pub tally-more : p < m .atoms → Tallied m v p out lost round → (f : Fate) → f ≡ fateIn (linksAt (m .number) owner p) (endIn (m .link)) (m .nodes) 0 v
         → Tallied m v (p + 1) (out + pick (isOut f) (width (m .cut) p) 0) (lost + pick (isLost f) (width (m .cut) p) 0) (round + pick (isRound f) (width (m .cut) p) 0)
     tally-more h T f e =
-        let q : f ≡ fateOf m v (getD (m .cut) p 0) = e ∙ fate-at v (getD (m .cut) p 0) p (lower-end p h) in
+        let q : f ≡ fateOf m v (getD (m .cut) p 0) = e ∙ fate-at v (getD (m .cut) p 0) p (lower-holds (W .sound .cuts) p h) in
         record {
           out = rw (q, T .out) (sym (count-more (m .cut) (λ a. isOut (fateOf m v a)) p));
           lost = rw (q, T .lost) (sym (count-more (m .cut) (λ a. isLost (fateOf m v a)) p));

@@ -1,5 +1,5 @@
 -- The words of the labels are their members. Assumes nothing.
-use mathlib.Core.Bool.{Bool, true, false, _&&_, _||_, true≢false, or-true}
+use mathlib.Core.Bool.{Bool, true, false, _&&_, _||_, true≢false, or-true, and-eq-true-iff}
 use mathlib.Core.List.{List}
 use mathlib.Core.Logic.{_⊎_, inl, inr}
 use mathlib.Core.Path.{_≡_, refl, sym, ap, ap₂, _∙_}
@@ -118,12 +118,15 @@ any-one P n i l h = go (P i) refl (anyBelow n P) refl
     go false e true f = let r = any-some P n f in absurd (true≢false (sym (r .2) ∙ ap P (h (r .0) (r .1) (r .2)) ∙ e))
 
 pub and-both : (a b : Bool) → (a && b) ≡ true → (a ≡ true) × (b ≡ true)
-and-both true b e = (refl, e)
-and-both false b e = absurd (true≢false (sym e))
+and-both a b = and-eq-true-iff a b .0
 
 pub or-either : (a b : Bool) → (a || b) ≡ true → (a ≡ true) ⊎ (b ≡ true)
 or-either true b e = inl refl
 or-either false b e = inr e
+
+pub or-neither : (a b : Bool) → (a || b) ≡ false → (a ≡ false) × (b ≡ false)
+or-neither true b e = absurd (true≢false e)
+or-neither false b e = (refl, e)
 
 -- a number is one place's
 pub one-place : {number : List ℕ} {n : ℕ} → Numbers number n → (p q : ℕ) → p < n → q < n → getD number p 0 ≡ getD number q 0 → p ≡ q

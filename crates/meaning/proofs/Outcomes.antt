@@ -24,7 +24,7 @@ use Rattle.meaning.specs.Step.{when, ragged, clashes, added, refusal, tu
 use Rattle.meaning.specs.Run.{Came}
 use Rattle.meaning.proofs.Places.{le-or-lt}
 use Rattle.meaning.proofs.Words.{Sized, Fits, fits, link-of, rank-of, lower-of, upper-of, within-top}
-use Rattle.meaning.proofs.Sound.{or-false}
+use Rattle.meaning.proofs.Members.{or-neither}
 use Rattle.meaning.proofs.Kept.{sound}
 use Rattle.meaning.proofs.Winners.{covers-is}
 use Rattle.meaning.proofs.Refusals.{ties, tie-found}
@@ -152,7 +152,7 @@ module _ (m : State) (c : Came m) where
       first _ _ _ 9 _ (λ x. x, λ x. x) (λ b.
       first _ _ _ 5 _ (le-test (m .links) l) (λ d.
       first _ _ _ 11 _ (or-test _ _ _ _ (lt-test 32 n) (not-test _ _ (eq-test (p % 2 ^ (32 - n)) 0))) (λ e.
-      let x = or-false (ltb 32 n) (not (eqb (p % 2 ^ (32 - n)) 0)) e in
+      let x = or-neither (ltb 32 n) (not (eqb (p % 2 ^ (32 - n)) 0)) e in
       let hl : l < 64 = omega (arith, leb-false (m .links) l d, sound m c .few) in
       let hn : n ≤ 32 = ltb-false 32 n (x .0) in
       first _ _ _ 12 _ (tie-test l p n t hl F hn) (λ g.

@@ -2,7 +2,7 @@
 use mathlib.Core.Path.{_≡_, refl, sym, ap, ap₂, _∙_, subst, subst⁻¹}
 use mathlib.Core.Logic.{_⊎_, inl, inr, ⊎-elim, _≢_}
 use mathlib.Core.List.{List, [], _∷_}
-use mathlib.Core.Bool.{Bool, true, false, not, _&&_, _||_, true≢false}
+use mathlib.Core.Bool.{Bool, true, false, not, _&&_, _||_, true≢false, and-comm}
 use mathlib.Core.Option.{Option, none, some}
 use Prim.Native.Nat.{ℕ, zero, suc, _+_, _-_, _*_, _/_, _%_, _^_, _≤_, _<_}
 use native.Mathlib.Nat.{not-suc-le-zero}
@@ -30,6 +30,7 @@ use Rattle.meaning.specs.Run.{Came, start, more}
 use Rattle.meaning.proofs.Places.{le-or-lt}
 use Rattle.meaning.proofs.Parted.{split-cuts, split-numbers, split-has, split-keeps, split-count, boundary-is}
 use Rattle.meaning.proofs.Constant.{Aligned}
+use Rattle.meaning.proofs.Members.{or-neither}
 use Rattle.meaning.proofs.Begins.{Begins, nothing, unread, whole, begins}
 use Rattle.meaning.proofs.Words.{link-of, rank-of, lower-of, upper-of, live-of, within-top, Sized, Fits, fits}
 
@@ -89,24 +90,14 @@ unfolding when
 when-none true k o e = let z : _≡_ {A = ℕ} 0 1 = cc in absurd (omega arith)
 when-none false k o e = (refl, e)
 
-pub or-false : (a b : Bool) → (a || b) ≡ false → (a ≡ false) × (b ≡ false)
-or-false true b e = absurd (true≢false e)
-or-false false b e = (refl, e)
-
 pub any-false : (P : ℕ → Bool) (n : ℕ) → anyBelow n P ≡ false → (i : ℕ) → i < n → P i ≡ false
 unfolding anyBelow
 any-false P zero e i l = absurd (not-suc-le-zero l)
-any-false P (suc n) e i l = let h = or-false (anyBelow n P) (P n) e in go (any-false P n (h .0) i) (h .1) (ℕ-discrete i n)
+any-false P (suc n) e i l = let h = or-neither (anyBelow n P) (P n) e in go (any-false P n (h .0) i) (h .1) (ℕ-discrete i n)
   where
     go : (i < n → P i ≡ false) → P n ≡ false → Dec (i ≡ n) → P i ≡ false
     go f h (yes q) = ap P q ∙ h
     go f h (no q) = f (omega arith)
-
-and-comm : (a b : Bool) → (a && b) ≡ (b && a)
-and-comm true true = refl
-and-comm true false = refl
-and-comm false true = refl
-and-comm false false = refl
 
 pub overlap-comm : (v w : ℕ) → overlap v w ≡ overlap w v
 unfolding overlap

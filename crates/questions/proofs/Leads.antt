@@ -9,7 +9,7 @@ use native.Mathlib.Nat.{mod-eq-of-lt, add-zero}
 use native.Mathlib.Decide.{ℕ-discrete, decLt}
 use native.Mathlib.Omega.{arith}
 use borrow.Author.Count.{below-more}
-use lib.Bits.{bitOr, bitAnd, or-add-and, and-le-l, and-le-r}
+use lib.Bits.{bitOr, bitAnd}
 use lib.Dec.{eqb}
 use lib.ListN.{length, getD, set}
 use lib.Seq.{getD-set-same, getD-set-other}
@@ -21,7 +21,7 @@ use Rattle.meaning.specs.Labels.{bit, on}
 use Rattle.meaning.specs.Questions.{byAddress}
 use Rattle.meaning.specs.Walk.{at, leave, move, after, standsAt, onCircle, comesTo}
 use Rattle.meaning.proofs.Places.{le-or-lt}
-use Rattle.meaning.proofs.Bits.{bit-of-zero}
+use Rattle.meaning.proofs.Bits.{zero-bits, or-none}
 use Rattle.meaning.proofs.Members.{any-true, any-some}
 use Rattle.meaning.proofs.Means.{stands-at, at-stands}
 use Rattle.meaning.proofs.Walks.{after-add, going-le}
@@ -38,10 +38,6 @@ both : {t : Bool} → t ≡ true → t ≡ false → ⊥
 both e f = true≢false (sym e ∙ f)
 
 -- ---- a link that has no atom
-
--- words that are 0 together are 0 each
-or-none : (a b : ℕ) → bitOr a b ≡ 0 → (a ≡ 0) × (b ≡ 0)
-or-none a b e = (omega (arith, or-add-and a b, and-le-r a b), omega (arith, or-add-and a b, and-le-l a b))
 
 -- the words of link l, put together
 abbrev words : List ℕ → ℕ → ℕ
@@ -66,7 +62,7 @@ pub no-atom : (label : List ℕ) (l : ℕ) → not (eqb (words label (8 * l)) 0)
 no-atom label l f = record {
   none-on = λ k h.
       let z : getD label (8 * l + k / 64) 0 ≡ 0 = each-word label (8 * l) (eqb-true _ _ (not-false _ f)) (k / 64) (omega arith) in
-      ap (λ (x : ℕ). eqb (bit x (k % 64)) 1) z ∙ ap (λ (x : ℕ). eqb x 1) (bit-of-zero (k % 64));
+      ap (λ (x : ℕ). eqb (bit x (k % 64)) 1) z ∙ zero-bits (k % 64);
 }
 
 -- ---- leads, link by link

@@ -2,7 +2,7 @@
 -- Assumes nothing.
 use mathlib.Core.Path.{_≡_, refl, sym, ap, ap₂, _∙_, subst}
 use mathlib.Core.Logic.{_⊎_, inl, inr, ⊎-elim}
-use mathlib.Core.Bool.{Bool, true, false, _&&_, not, true≢false}
+use mathlib.Core.Bool.{Bool, true, false, _&&_, not, true≢false, and-true, and-false, and-assoc}
 use mathlib.Core.List.{List}
 use mathlib.Core.Option.{none, some}
 use Prim.Native.Nat.{ℕ, zero, suc, _+_, _-_, _/_, _%_, _^_, _≤_, _<_}
@@ -35,18 +35,6 @@ use Rattle.tables.specs.Gathered.{standing, tying, bestIn, maskOf, Marks
 
 -- ---- standing, covering, overlapping and tying, by the tests on the way
 
-and-assoc : (a b c : Bool) → (a && (b && c)) ≡ ((a && b) && c)
-and-assoc true b c = refl
-and-assoc false b c = refl
-
-and-off : (a : Bool) → (a && false) ≡ false
-and-off true = refl
-and-off false = refl
-
-and-on : (a : Bool) → (a && true) ≡ a
-and-on true = refl
-and-on false = refl
-
 -- a word whose bits are all b keeps x where b is true, and else nothing of it
 module _ (x : ℕ) (h : x < 2 ^ 64) where
   masked : (b : Bool) → bitAnd x (maskOf b) ≡ pick b x 0
@@ -55,8 +43,8 @@ module _ (x : ℕ) (h : x < 2 ^ 64) where
 
   live-and : (b : Bool) → not (eqb (pick b x 0) 0) ≡ (live x && b)
   unfolding live
-  live-and true = sym (and-on (live x))
-  live-and false = sym (and-off (live x))
+  live-and true = sym (and-true (live x))
+  live-and false = sym (and-false (live x))
 
   pub live-marked : (l : ℕ) (here : List ℕ) → l ≡ linkOf x → (b : Bool) → getD here (linkOf x) 0 ≡ maskOf b
       → not (eqb (bitAnd x (getD here l 0)) 0) ≡ (live x && b)
@@ -84,7 +72,7 @@ module _ (x a l u : ℕ) (isLow : l ≡ lower x) (isHigh : u ≡ upper x) where
 
   pub covers-past : u ≤ a → covers x a ≡ false
   unfolding covers
-  covers-past h = rw (le-ltb a (upper x) (omega arith), and-off)
+  covers-past h = rw (le-ltb a (upper x) (omega arith), and-false)
 
   pub covers-between : l ≤ a → a < u → covers x a ≡ true
   covers-between h g = sym (covers-from h) ∙ lt-ltb a u g
@@ -105,13 +93,13 @@ module _ (x w l u : ℕ) (isLow : l ≡ lower x) (isHigh : u ≡ upper w) where
 module _ (link : List ℕ) (v w x : ℕ) where
   tying-is : tying link v w x ≡ (standing link v x && (eqb (rank x) (rank w) && overlap x w))
   unfolding tying standing
-  tying-is = and-assoc (live x) _ _
+  tying-is = sym (and-assoc (live x) _ _)
 
   pub ties-elsewhere : standing link v x ≡ false → false ≡ tying link v w x
   ties-elsewhere e = rw (tying-is, e)
 
   pub ties-apart : (a b : ℕ) → a ≡ rank x → b ≡ rank w → (a ≡ b → ⊥) → false ≡ tying link v w x
-  ties-apart a b e f n = rw (tying-is, ne-eqb (rank x) (rank w) (λ d. n (e ∙ d ∙ sym f)), and-off)
+  ties-apart a b e f n = rw (tying-is, ne-eqb (rank x) (rank w) (λ d. n (e ∙ d ∙ sym f)), and-false)
 
   pub ties-if : (a b : ℕ) → a ≡ rank x → b ≡ rank w → a ≡ b → standing link v x ≡ true → overlap x w ≡ tying link v w x
   ties-if a b e f d s = rw (tying-is, s, eq-eqb (rank x) (rank w) (sym e ∙ d ∙ f))
@@ -294,7 +282,7 @@ module _ (m : State) (v w a : ℕ) (among : List ℕ) (count : ℕ) (S : Sound m
 
   eligible-is : (k : ℕ) → eligible m v a k ≡ (standing (m .link) v (getD (m .rule) k 0) && covers (getD (m .rule) k 0) a)
   unfolding eligible standing sourceOf ruleAt
-  eligible-is k = and-assoc (live (getD (m .rule) k 0)) _ _
+  eligible-is k = sym (and-assoc (live (getD (m .rule) k 0)) _ _)
 
   eligible-among : (k : ℕ) → k < 256 → lower w ≤ a → a < upper w → eligible m v a k ≡ true
       → (covering k ≡ true) × ((j : ℕ) × (j < count) × (getD among j 0 ≡ k))
