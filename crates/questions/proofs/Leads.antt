@@ -31,7 +31,7 @@ use Rattle.meaning.proofs.Moving.{among, in-none, in-all, in-either, in-both, i
 use Rattle.meaning.proofs.Labelled.{starts}
 use Rattle.meaning.proofs.ByPlace.{small-atom, ends-of, loop-none, reach-none}
 use Rattle.questions.specs.Moves.{Comes}
-use Rattle.questions.specs.Leads.{Empty, leadsTo, Leads, Joined, Onward, OffLeads, Widened, TowardLeads, Together, OffWalks, TowardWalks}
+use Rattle.questions.specs.Leads.{Empty, leadsTo, Leads, LetLead, Onward, OffLeads, Widened, TowardLeads, Together, OffWalks, TowardWalks}
 
 -- what is true and false at once
 both : {t : Bool} → t ≡ true → t ≡ false → ⊥
@@ -70,8 +70,8 @@ no-atom label l f = record {
 pub leads-none : (link label lead : List ℕ) → Leads link label 0 lead
 leads-none link label lead = record { by = λ l k h. absurd (omega arith) }
 
-pub joined : (before : List ℕ) (v u : ℕ) → length before ≡ 16 → v < 16 → u < 16 → Joined before (set before v (bitOr (getD before v 0) (1 * 2 ^ u % 65536))) v u
-joined before v u size hv hu = record {
+pub let-lead : (before : List ℕ) (v u : ℕ) → length before ≡ 16 → v < 16 → u < 16 → LetLead before (set before v (bitOr (getD before v 0) (1 * 2 ^ u % 65536))) v u
+let-lead before v u size hv hu = record {
   kept = λ x y e. go x y e (ℕ-discrete x v);
   new = rw (getD-set-same before v (bitOr (getD before v 0) (1 * 2 ^ u % 65536)) 0 (omega arith)) (in-new (getD before v 0) u hu);
 }
@@ -94,8 +94,8 @@ module _ (link label lead : List ℕ) (l : ℕ) (L : Leads link label l lead) wh
       go i k hk e s t hi (yes q) = rw q (f k hk (rw q at e) (rw q at s) (rw q at t))
       go i k hk e s t hi (no n) = kept (getD link i 0 / 1024) (getD link i 0 % 1024) (L .by i k (omega arith) hk e s t)
 
-  pub leads-joined : (after : List ℕ) (v : ℕ) → v ≡ getD link l 0 / 1024 → Joined lead after v (getD link l 0 % 1024) → Leads link label (l + 1) after
-  leads-joined after v q J = more after (J .kept) (λ k hk e s t. sym (ap (λ (x : ℕ). leadsTo after x (getD link l 0 % 1024)) q) ∙ J .new)
+  pub leads-let : (after : List ℕ) (v : ℕ) → v ≡ getD link l 0 / 1024 → LetLead lead after v (getD link l 0 % 1024) → Leads link label (l + 1) after
+  leads-let after v q J = more after (J .kept) (λ k hk e s t. sym (ap (λ (x : ℕ). leadsTo after x (getD link l 0 % 1024)) q) ∙ J .new)
 
   pub leads-empty : Empty label l → Leads link label (l + 1) lead
   leads-empty E = more lead (λ x y e. e) (λ k hk e s t. absurd (both e (E .none-on k hk)))

@@ -28,7 +28,7 @@ use Rattle.meaning.proofs.Carried.{sourceIn, Carries, Reached, Within, leavesBy
 use Rattle.meaning.proofs.LabelWords.{trailing-below, trailing-at}
 use Rattle.meaning.proofs.Members.{and-both, or-either, or-neither}
 use Rattle.meaning.proofs.Bits.{zero-bits, set-bit, clear-bit, shifted, or-bits, and-bits, without-bits, ones-bits, or-none, xor-none}
-use Rattle.questions.specs.Standing.{Declared, Filled, Joined, TakenAway, Kept, Took, Leaving, SettledBut, Along, Round, Spread, Outward, Stayed, GatheredRow, Gathered, Divided}
+use Rattle.questions.specs.Standing.{Declared, Filled, JoinedRow, TakenAway, Kept, Took, Leaving, SettledBut, Along, Round, Spread, Outward, Stayed, GatheredRow, Gathered, Divided}
 
 -- a box in order has links that start at nodes
 pub declared-of : {m : State} {label owner : List ℕ} → Whole m label owner → Declared (m .link) (m .links)
@@ -113,8 +113,8 @@ joining-more {label} {b} {a} {l} {s} {r} {j} {more} J hr hj y e = record {
     go x z (yes q) = rw q (getD-set-same a p y 0 (omega (arith, J .words .size)) ∙ xor-none y (getD a p 0) (z .1) ∙ J .still (z .0) p)
     go x z (no n) = getD-set-other a p x y 0 n ∙ J .still (z .0) x
 
-pub joined : {label b a : List ℕ} {l s r j more : ℕ} → Joining label l s r b a j more → j ≡ 8 → Joined label l s r b a more
-joined {label} {b} {a} {l} {s} {r} {j} J e = record {
+pub joined-row : {label b a : List ℕ} {l s r j more : ℕ} → Joining label l s r b a j more → j ≡ 8 → JoinedRow label l s r b a more
+joined-row {label} {b} {a} {l} {s} {r} {j} J e = record {
   size = W .size;
   member = λ u k hu hk. go u k hk (ℕ-discrete u r);
   still = λ z u k hu hk. ap (λ (x : ℕ). eqb (bit x (k % 64)) 1) (J .still z (8 * u + k / 64));
@@ -272,7 +272,7 @@ along-none link label links l b size away = record {
   declared = λ m hm e. absurd (in-none m e);
 }
 
-module _ {link label : List ℕ} {links l s r : ℕ} {b a : List ℕ} {new : ℕ} (D : Declared link links) (J : Joined label l s r b a new)
+module _ {link label : List ℕ} {links l s r : ℕ} {b a : List ℕ} {new : ℕ} (D : Declared link links) (J : JoinedRow label l s r b a new)
     (from : s ≡ sourceIn link l) (to : r ≡ endIn link l) (hr : r < 16) where
   along : (more : ℕ) → ((m k : ℕ) → m < links → k < 512 → endIn link m < 16 → among more m ≡ false → on a (sourceIn link m) k ≡ on b (sourceIn link m) k)
       → ((m : ℕ) → m < 64 → among more m ≡ true → m < links) → Along link label links l b a more
@@ -500,7 +500,7 @@ unfolding anyBelow
 outward-none link label b size = record { size = size; out = λ k hk. sym (or-false (on b 16 k)); else = λ u k hu hk n. refl }
 
 module _ {link label b a : List ℕ} {l : ℕ} (O : Outward link label l b a) where
-  pub outward-by : {a′ : List ℕ} {s more : ℕ} → endIn link l / 256 ≡ 1 → s ≡ sourceIn link l → s < 16 → Joined label l s 16 a a′ more → Outward link label (l + 1) b a′
+  pub outward-by : {a′ : List ℕ} {s more : ℕ} → endIn link l / 256 ≡ 1 → s ≡ sourceIn link l → s < 16 → JoinedRow label l s 16 a a′ more → Outward link label (l + 1) b a′
   unfolding leavesBy
   outward-by {a′} {s} port from hs J = record {
     size = J .size;
