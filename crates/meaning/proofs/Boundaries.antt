@@ -29,7 +29,7 @@ use Rattle.meaning.proofs.Places.{Order, less, same, more as past, orde
 use Rattle.meaning.proofs.Parted.{within, is-boundary, boundary-is, split-count}
 use Rattle.meaning.proofs.Sound.{Sound, when-none}
 use Rattle.meaning.proofs.Words.{Sized, Fits, lower-of, upper-of}
-use Rattle.meaning.proofs.Kept.{Clear, clear, Room, room-for, room-lower, keeps-lower, missing, count-lower, room-upper, ends-keep, has-lower, has-upper, sound}
+use Rattle.meaning.proofs.Kept.{Clear, clear, rule-fits, Room, room-for, room-lower, keeps-lower, missing, count-lower, room-upper, ends-keep, has-lower, has-upper, sound}
 use Rattle.meaning.proofs.Steps.{Stepped, short, ended, unread, turned, took, reads-fit, stepped}
 
 -- a split makes b a boundary and no other number
@@ -68,14 +68,11 @@ module _ (m : State) (S : Sound m) (r l p n t : ℕ) (F : Sized l p t) (C : Clea
   R : Room m w
   R = room-for m S F C
 
-  small : l < 64
-  small = omega (arith, C .declared, S .few)
-
   from-is : lower w ≡ p
-  from-is = lower-of l p n t small (F .prefix) (C .long) (F .priority)
+  from-is = lower-of (rule-fits S F C)
 
   to-is : upper w ≡ p + 2 ^ (32 - n)
-  to-is = upper-of l p n t small (F .prefix) (C .long) (F .priority)
+  to-is = upper-of (rule-fits S F C)
 
   -- both ends are boundaries then, what was one still is, and nothing else has become one
   insert-keeps : (x : ℕ) → Boundary (m .cut) (m .atoms) x → Boundary (N .cut) (N .atoms) x

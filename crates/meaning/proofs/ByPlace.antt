@@ -9,7 +9,6 @@ use native.Mathlib.Numerals.{add-one}
 use native.Mathlib.Decide.{ℕ-discrete}
 use native.Mathlib.Omega.{arith}
 use lib.ListN.{getD}
-use borrow.Author.Tests.{ne-eqb}
 use Rattle.meaning.specs.declared.Fate.{Fate}
 use Rattle.meaning.specs.declared.Answer.the-variants.{Loop, NoLoop, Yes, No, Tally}
 use Rattle.meaning.specs.declared.Record.{Record}
@@ -27,7 +26,7 @@ use Rattle.meaning.proofs.Searches.{lowest-off, lowest-first}
 use Rattle.meaning.proofs.Circles.{circle-never}
 use Rattle.meaning.proofs.Means.{closed-in, round-is, circle-is, loop-circle}
 use Rattle.meaning.proofs.Owners.{ownerIn, via, nextIn, endIn, Ends, Whole}
-use Rattle.meaning.proofs.Labelled.{next-is, end-is, ends-in}
+use Rattle.meaning.proofs.Labelled.{via-named, next-is, end-is, ends-in}
 
 -- ---- the lowest place with P, and how many addresses have it
 
@@ -93,10 +92,9 @@ module _ (m : State) (label owner : List ℕ) (W : Whole m label owner) where
   small-atom p h = omega (arith, W .sound .numbers .small p h, W .sound .cuts .room)
 
   pub ends-of : Ends (m .link) owner
-  unfolding via
   ends-of = record {
     inside = λ k v hk hv n l.
-        let e : via (ownerIn owner k v) ≡ ownerIn owner k v / 512 % 64 = rw (ne-eqb (ownerIn owner k v) 0 n) in
+        let e = via-named (ownerIn owner k v) n in
         let r : (endIn (m .link) (ownerIn owner k v / 512 % 64) < 256 → endIn (m .link) (ownerIn owner k v / 512 % 64) < m .nodes) = rw e at (ends-in m label owner W k v hk hv n .1) in
         omega (arith, r l, W .sound .small);
   }

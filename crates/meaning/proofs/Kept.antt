@@ -21,7 +21,7 @@ use Rattle.meaning.specs.declared.Record.the-variants.{Hall as hall, Lin
 use Rattle.meaning.specs.Records.{phaseOf}
 use Rattle.meaning.specs.Step.{ragged, clashes, added, refusal, withRule, inserted, withNodes, withLink, closed, leaves}
 use Rattle.meaning.proofs.Parted.{is-boundary, split-cuts, split-numbers, split-has, split-keeps, split-count, boundary-is}
-use Rattle.meaning.proofs.Words.{link-of, lower-of, upper-of, within-top, Sized, Fits}
+use Rattle.meaning.proofs.Words.{RuleFits, link-of, lower-of, upper-of, within-top, Sized, Fits}
 use Rattle.meaning.specs.Run.{Came}
 use Rattle.meaning.proofs.Sound.{came-keeps, Sound, fresh-sound, when-none, any-false, overlap-comm}
 use Rattle.meaning.proofs.Members.{or-neither}
@@ -279,6 +279,9 @@ keeps-remove m S r hr ph = keeps-rule m S r 0 hr ph (λ e. absurd (true≢false 
 
 -- ---- an insert
 
+pub rule-fits : {m : State} {r l p n t : ℕ} → Sound m → Sized l p t → Clear m r l p n t → RuleFits l p n t
+rule-fits S F C = record { link = omega (arith, C .declared, S .few); prefix = F .prefix; long = C .long; priority = F .priority }
+
 -- the ends of word w lie in the range, and there is room for a boundary at each
 pub record Room (m : State) (w : ℕ) : Type 0 where
   pub lower-top : lower w ≤ top
@@ -287,13 +290,10 @@ pub record Room (m : State) (w : ℕ) : Type 0 where
 
 pub room-for : (m : State) → Sound m → {r l p n t : ℕ} → Sized l p t → Clear m r l p n t → Room m (ruleWord l p n t)
 room-for m S {r} {l} {p} {n} {t} F C = record {
-  lower-top = omega (arith, lower-of l p n t hl (F .prefix) (C .long) (F .priority), F .prefix);
-  upper-top = omega (arith, upper-of l p n t hl (F .prefix) (C .long) (F .priority), within-top p n (F .prefix) (C .long) (C .flush));
+  lower-top = omega (arith, lower-of (rule-fits S F C), F .prefix);
+  upper-top = omega (arith, upper-of (rule-fits S F C), within-top p n (F .prefix) (C .long) (C .flush));
   both = C .room;
 }
-  where
-    hl : l < 64
-    hl = omega (arith, C .declared, S .few)
 
 module _ (m : State) (S : Sound m) (w : ℕ) (R : Room m w) where
   pub room-lower : isCut (m .cut) (m .atoms) (lower w) ≡ false → m .atoms < 512
@@ -349,7 +349,7 @@ keeps-insert m S r l p n t F ph C =
     keeps-rule (withCut (withCut m (lower w)) (upper w)) (keeps-upper m S w R) r w (C .number)
     (unfold withCut in ph)
     (λ e. record {
-      declared = unfold withCut in omega (arith, link-of l p n t (omega (arith, C .declared, S .few)) (F .prefix) (C .long) (F .priority), C .declared);
+      declared = unfold withCut in omega (arith, link-of (rule-fits S F C), C .declared);
       from = has-lower m S w R;
       to = has-upper m S w R;
       alone = unfold withCut clashes ruleAt sourceOf in C .alone;

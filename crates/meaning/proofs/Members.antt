@@ -94,9 +94,9 @@ pub any-none : (P : ℕ → Bool) → anyBelow 0 P ≡ false
 unfolding anyBelow
 any-none P = refl
 
-pub any-more : (P : ℕ → Bool) (i : ℕ) → anyBelow i P ≡ false → P i ≡ false → anyBelow (i + 1) P ≡ false
+pub any-more : (P : ℕ → Bool) (n : ℕ) → anyBelow (n + 1) P ≡ anyBelow n P || P n
 unfolding anyBelow
-any-more P i e f = rw (add-one, e, f)
+any-more P n = ap (λ (x : ℕ). anyBelow x P) (add-one n)
 
 pub any-some : (P : ℕ → Bool) (n : ℕ) → anyBelow n P ≡ true → (i : ℕ) × (i < n) × (P i ≡ true)
 unfolding anyBelow

@@ -32,7 +32,7 @@ use Rattle.meaning.proofs.Parted.{split-cuts, split-numbers, split-has,
 use Rattle.meaning.proofs.Constant.{Aligned}
 use Rattle.meaning.proofs.Members.{or-neither}
 use Rattle.meaning.proofs.Begins.{Begins, nothing, unread, whole, begins}
-use Rattle.meaning.proofs.Words.{link-of, rank-of, lower-of, upper-of, live-of, within-top, Sized, Fits, fits}
+use Rattle.meaning.proofs.Words.{Fits, fits}
 
 -- ---- what is kept from record to record
 

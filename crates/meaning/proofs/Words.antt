@@ -17,7 +17,16 @@ use Rattle.meaning.specs.declared.Record.{Record}
 use Rattle.meaning.specs.declared.Record.the-variants.{Hall as hall, Link as link, Close as close, Insert as insert, Remove as remove, Loop as loop, Fate as fate, Reach as reach, Tally as tally}
 use Rattle.meaning.specs.Records.{number, recordOf}
 
-module _ (l p n t : ℕ) (hl : l < 64) (hp : p < 2 ^ 32) (hn : n ≤ 32) (ht : t < 2 ^ 16) where
+-- ---- a rule's word: its parts come back from it
+
+-- link, prefix, length and priority have room in a word
+pub record RuleFits (l p n t : ℕ) : Type 0 where
+  pub link : l < 64
+  pub prefix : p < 2 ^ 32
+  pub long : n ≤ 32
+  pub priority : t < 2 ^ 16
+
+module _ {l p n t : ℕ} (R : RuleFits l p n t) where
   pub link-of : linkOf (ruleWord l p n t) ≡ l
   unfolding linkOf ruleWord
   link-of = omega arith

@@ -13,7 +13,7 @@ use lib.Bits.{bitOr, bitAnd}
 use lib.Dec.{eqb}
 use lib.ListN.{length, getD, set}
 use lib.Seq.{getD-set-same, getD-set-other}
-use borrow.Author.Tests.{eq-eqb, ne-eqb, eqb-true, not-false, le-ltb}
+use borrow.Author.Tests.{eq-eqb, eqb-true, not-false, le-ltb}
 use Rattle.meaning.specs.declared.Record.the-variants.{Loop as loop, Reach as reach}
 use Rattle.meaning.specs.declared.Answer.the-variants.{NoLoop, No}
 use Rattle.meaning.specs.Hall.{State}
@@ -28,7 +28,7 @@ use Rattle.meaning.proofs.Walks.{after-add, going-le}
 use Rattle.meaning.proofs.Circles.{round-again}
 use Rattle.meaning.proofs.Owners.{ownerIn, via, nextIn, endIn, Whole}
 use Rattle.meaning.proofs.Moving.{among, in-none, in-all, in-either, in-both, in-alone, in-new, in-old, Off, NotYet, no-owner, to-node, to-end}
-use Rattle.meaning.proofs.Labelled.{starts}
+use Rattle.meaning.proofs.Labelled.{via-named, starts}
 use Rattle.meaning.proofs.ByPlace.{small-atom, ends-of, loop-none, reach-none}
 use Rattle.questions.specs.Moves.{Comes}
 use Rattle.questions.specs.Leads.{Empty, leadsTo, Leads, LetLead, Onward, OffLeads, Widened, TowardLeads, Together, OffWalks, TowardWalks}
@@ -158,11 +158,6 @@ toward-all lead w = record { start = in-all w; back = λ v u h f i. in-all v h }
 pub together : (m : State) (label owner : List ℕ) → Whole m label owner → Together (m .link) label owner
 together m label owner W = record { agrees = W .agrees; starts = starts m label owner W; ends = ends-of m label owner W }
 
--- the link of an owner that is there
-via-some : (e : ℕ) → (e ≡ 0 → ⊥) → via e ≡ e / 512 % 64
-unfolding via
-via-some e n = rw (ne-eqb e 0 n)
-
 -- no move leads on from a node that is none of 16
 past : (owner : List ℕ) (end : ℕ → ℕ) (k v u : ℕ) → 16 ≤ v → move (nextIn owner k) end (at v) ≡ at u → ⊥
 unfolding move leave nextIn
@@ -178,7 +173,7 @@ module _ (link label lead owner : List ℕ) (L : Leads link label 64 lead) (T : 
       let small : x < 64 = omega arith in
       let near : getD link x 0 % 1024 < 16 = T .ends .inside k v hk h n l in
       let to : getD link x 0 % 1024 ≡ u = cc (to-node owner k v h (endIn link) n l, e) in
-      let way : via (ownerIn owner k v) ≡ x = via-some (ownerIn owner k v) n in
+      let way : via (ownerIn owner k v) ≡ x = via-named (ownerIn owner k v) n in
       let from : getD link x 0 / 1024 ≡ v = sym (ap (λ (y : ℕ). getD link y 0 / 1024) way) ∙ T .starts .here k v hk h n in
       let has : on label x k ≡ true =
       T .agrees .bits x k small hk ∙ ap (λ (y : ℕ). eqb (via (ownerIn owner k y)) x) from ∙ eq-eqb (via (ownerIn owner k v)) x way in

@@ -6,7 +6,6 @@ use mathlib.Core.List.{List}
 use Prim.Native.Nat.{ℕ, zero, suc, _+_, _-_, _*_, _/_, _%_, _^_, _≤_, _<_}
 use native.Mathlib.Decide.{ℕ-discrete}
 use native.Mathlib.Nat.{mod-lt, zero-lt-suc}
-use native.Mathlib.Numerals.{add-one}
 use native.Mathlib.Omega.{arith}
 use lib.Bits.{bitOr, bitAnd, bitXor, and-le-l}
 use lib.Count.{trailingZeros}
@@ -26,7 +25,7 @@ use Rattle.meaning.proofs.Idle.{any-off}
 use Rattle.meaning.proofs.Moving.{among, in-none, step-to}
 use Rattle.meaning.proofs.Carried.{sourceIn, Carries, Reached, Within, leavesBy, goesOn, lostAt, moved-by, moves-on, carries-of, out-is, lost-is}
 use Rattle.meaning.proofs.LabelWords.{trailing-below, trailing-at}
-use Rattle.meaning.proofs.Members.{and-both, or-either, or-neither}
+use Rattle.meaning.proofs.Members.{any-more, and-both, or-either, or-neither}
 use Rattle.meaning.proofs.Bits.{zero-bits, set-bit, clear-bit, shifted, or-bits, and-bits, without-bits, ones-bits, or-none, xor-none}
 use Rattle.questions.specs.Standing.{Declared, Filled, JoinedRow, TakenAway, Kept, Took, Leaving, SettledBut, Along, Round, Spread, Outward, Stayed, GatheredRow, Gathered, Divided}
 
@@ -191,11 +190,6 @@ gathered-row {v} {j} {b} {a} G e = record { size = G .words .size; member = λ u
     go u k hk (no n) =
         other-row (G .words) (omega arith) u k hk n (omega arith) ∙ sym (or-false (on b u k))
         ∙ ap (λ (t : Bool). on b u k || (t && on b v k)) (sym (ne-eqb u 17 n))
-
--- one more of the numbers below a bound
-any-more : (P : ℕ → Bool) (n : ℕ) → anyBelow (n + 1) P ≡ anyBelow n P || P n
-unfolding anyBelow
-any-more P n = ap (λ (x : ℕ). anyBelow x P) (add-one n)
 
 pub gathered-none : (b : List ℕ) → length b ≡ 144 → Gathered 0 b b
 unfolding anyBelow

@@ -12,8 +12,8 @@ use Rattle.meaning.specs.Box.{stateOf}
 use Rattle.meaning.specs.declared.Record.{Record}
 use Rattle.meaning.specs.declared.Record.the-variants.{Insert as insertion}
 use Rattle.meaning.specs.Step.{withRule, inserted, leaves, nodeOf}
-use Rattle.meaning.proofs.Words.{Sized, link-of}
-use Rattle.meaning.proofs.Kept.{Clear, clear, Room, room-for, room-lower, room-upper}
+use Rattle.meaning.proofs.Words.{Sized, RuleFits, link-of}
+use Rattle.meaning.proofs.Kept.{Clear, clear, rule-fits, Room, room-for, room-lower, room-upper}
 use Rattle.meaning.proofs.Owners.{Whole}
 use Rattle.meaning.proofs.OneRule.{Joined, Spans, comes, rule-spans, node-small}
 use Rattle.tables.proofs.Updated.{cutAs, split-is, split-whole, numbered, ready, listed-as, taken-in}
@@ -43,14 +43,14 @@ module _ (s : tie.Start) where
   room : Room state word
   room = room-for state (s .pre .0 .sound) sized passed
 
-  link-small : s .args .x .link < 64
-  link-small = omega (arith, passed .declared, s .pre .0 .sound .few)
+  fits : RuleFits (s .args .x .link) (s .args .x .prefix) (s .args .x .length) (s .args .x .priority)
+  fits = rule-fits (s .pre .0 .sound) sized passed
 
   mine-fits : s .args .x .link * 512 + s .args .r + 1 < 2 ^ 16
-  mine-fits = omega (arith, passed .number, link-small)
+  mine-fits = omega (arith, passed .number, fits .link)
 
   mine-is : s .args .x .link * 512 + s .args .r + 1 ≡ linkOf word * 512 + (s .args .r + 1)
-  mine-is = omega (arith, link-of (s .args .x .link) _ _ _ link-small (sized .prefix) (passed .long) (sized .priority))
+  mine-is = omega (arith, link-of fits)
 
 -- ---- the rule's ends
 
@@ -141,13 +141,13 @@ mul-source-of : tie.Need-mul-source-of
 mul-source-of c = search needs
 
 element-copy-out-source-of : tie.Need-element-copy-out-source-of
-element-copy-out-source-of c = link-small (c .before .before)
+element-copy-out-source-of c = fits (c .before .before) .link
 
 source-of-requires : tie.Need-source-of-requires
 source-of-requires c κs = search needs
 
 pack-requires : tie.Need-pack-requires
-pack-requires c κs = let s = c .before .before .before .before in (link-small s, passed s .long)
+pack-requires c κs = let s = c .before .before .before .before in (fits s .link, fits s .long)
 
 lower-of-requires : tie.Need-lower-of-requires
 lower-of-requires c κs = search needs
