@@ -13,13 +13,12 @@ use Rattle.meaning.specs.declared.Read.{Read}
 use Rattle.meaning.specs.declared.Read.the-variants.{End as Nothing, Refused as Unread, Got}
 use Rattle.meaning.specs.declared.Record.{Record}
 use Rattle.meaning.specs.declared.Record.the-variants.{Insert as insert, Remove as remove}
-use Rattle.meaning.specs.Search.{pick}
 use Rattle.meaning.specs.Hall.{State}
 use Rattle.meaning.specs.Labels.{labelsOf, ownersOf}
 use Rattle.meaning.specs.Changes.{entriesAt, overwrite}
 use Rattle.meaning.specs.Questions.{byAddress}
 use Rattle.meaning.specs.Records.{readOf, phaseOf, isQuestion}
-use Rattle.meaning.specs.Step.{Done, when, refusal, turnedBy, leaves, listed, nodeOf, changes, only, answers, accepted, taken, stepFor, stepWith, stepBy, stepOf, replyTo}
+use Rattle.meaning.specs.Step.{when, refusal, turnedBy, leaves, listed, nodeOf, changes, only, answers, accepted, taken, stepFor, stepWith, stepBy, stepOf, replyTo}
 use Rattle.meaning.specs.Run.{Came, more}
 use Rattle.meaning.specs.Answers.{said}
 use Rattle.meaning.specs.Box.{Held, Left, left, leftBy, leftFor, leftOf}

@@ -25,7 +25,7 @@ use Rattle.meaning.proofs.Members.{any-true}
 use Rattle.meaning.proofs.Searches.{lowest-off, lowest-first}
 use Rattle.meaning.proofs.Circles.{circle-never}
 use Rattle.meaning.proofs.Means.{closed-in, round-is, circle-is, loop-circle}
-use Rattle.meaning.proofs.Owners.{ownerIn, via, nextIn, endIn, Ends, Whole}
+use Rattle.meaning.proofs.Owners.{ownerIn, nextIn, endIn, Ends, Whole}
 use Rattle.meaning.proofs.Labelled.{via-named, next-is, end-is, ends-in}
 
 -- ---- the lowest place with P, and how many addresses have it

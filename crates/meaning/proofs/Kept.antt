@@ -1,6 +1,5 @@
 -- Each accepted record keeps a state sound, so a state that came from the fresh one by records is sound. Assumes nothing.
 use mathlib.Core.Path.{_≡_, refl, sym, ap, _∙_}
-use mathlib.Core.Logic.{_≢_}
 use mathlib.Core.Bool.{Bool, true, false, not, _&&_, true≢false}
 use mathlib.Core.Option.{none}
 use Prim.Native.Nat.{ℕ, _+_, _-_, _*_, _/_, _%_, _^_, _≤_, _<_}
@@ -279,6 +278,7 @@ keeps-remove m S r hr ph = keeps-rule m S r 0 hr ph (λ e. absurd (true≢false 
 
 -- ---- an insert
 
+-- the parts of an accepted rule have room in its word
 pub rule-fits : {m : State} {r l p n t : ℕ} → Sound m → Sized l p t → Clear m r l p n t → RuleFits l p n t
 rule-fits S F C = record { link = omega (arith, C .declared, S .few); prefix = F .prefix; long = C .long; priority = F .priority }
 

@@ -1,7 +1,7 @@
 -- What an update does to the winners and the owners. State n has the rules of m and one more, rule r with the word z: an insert goes from
 -- m to n, a remove from n to m. With r, the winner is the better of the winner without it and r. Assumes nothing.
 use mathlib.Core.Path.{_≡_, refl, sym, ap, ap₂, _∙_, subst⁻¹}
-use mathlib.Core.Logic.{_⊎_, inl, inr, ⊎-elim}
+use mathlib.Core.Logic.{inl, inr, ⊎-elim}
 use mathlib.Core.Bool.{Bool, true, false, true≢false}
 use mathlib.Core.List.{List, [], _∷_, _++_, append-assoc, append-nil}
 use mathlib.Core.Option.{none, some}

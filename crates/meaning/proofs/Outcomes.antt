@@ -18,7 +18,7 @@ use Rattle.meaning.specs.Hall.{top, State, sourceOf}
 use Rattle.meaning.specs.Rule.{ruleWord, live, linkOf, rank, lower, upper}
 use Rattle.meaning.specs.Winner.{ruleAt}
 use Rattle.meaning.specs.Questions.{loopsAt, circleAt, someNode, loopFrom, reachesAt, reachFrom, asked, byAddress}
-use Rattle.meaning.specs.declared.Read.the-variants.{End as Nothing, Refused as Unread, Got}
+use Rattle.meaning.specs.declared.Read.the-variants.{Refused as Unread, Got}
 use Rattle.meaning.specs.Records.{isKind, bodyOf, recordOf, readOf, phaseOf}
 use Rattle.meaning.specs.Step.{when, ragged, clashes, added, refusal, turnedBy, only, answers, accepted, taken, stepFor, stepWith, stepBy, stepOf}
 use Rattle.meaning.specs.Run.{Came}

@@ -1,34 +1,31 @@
 -- A state that came from the fresh one by records is sound. Assumes nothing.
-use mathlib.Core.Path.{_≡_, refl, sym, ap, ap₂, _∙_, subst, subst⁻¹}
-use mathlib.Core.Logic.{_⊎_, inl, inr, ⊎-elim, _≢_}
-use mathlib.Core.List.{List, [], _∷_}
-use mathlib.Core.Bool.{Bool, true, false, not, _&&_, _||_, true≢false, and-comm}
+use mathlib.Core.Path.{_≡_, refl, sym, ap, _∙_}
+use mathlib.Core.Logic.{⊎-elim}
+use mathlib.Core.List.{List}
+use mathlib.Core.Bool.{Bool, true, false, not, true≢false, and-comm}
 use mathlib.Core.Option.{Option, none, some}
-use Prim.Native.Nat.{ℕ, zero, suc, _+_, _-_, _*_, _/_, _%_, _^_, _≤_, _<_}
+use Prim.Native.Nat.{ℕ, zero, suc, _≤_, _<_}
 use native.Mathlib.Nat.{not-suc-le-zero}
 use native.Mathlib.Decide.{ℕ-discrete}
 use native.Mathlib.Omega.{arith}
-use lib.Dec.{leb, ltb, eqb}
-use lib.Pow.{pow-pos}
-use lib.ListN.{length, getD, set, replicate, length-set, length-replicate, List·getD-eq-default, getD-replicate}
-use lib.Seq.{getD-set-same, getD-set-other}
-use borrow.Author.Tests.{ltb-false, leb-false, eqb-true, eqb-false, not-true, not-false, eq-eqb, lt-ltb, ltb-true}
+use lib.Dec.{ltb, eqb}
+use lib.ListN.{length, getD, length-set, length-replicate, List·getD-eq-default, getD-replicate}
+use lib.Seq.{getD-set-other}
+use borrow.Author.Tests.{eqb-true, not-false}
 use Rattle.meaning.specs.declared.Answer.{Answer}
-use Rattle.meaning.specs.declared.Answer.the-variants.{End, Refused}
+use Rattle.meaning.specs.declared.Answer.the-variants.{Refused}
 use Rattle.meaning.specs.Search.{pick, anyBelow}
-use Rattle.meaning.specs.Hall.{top, zeroes, State, fresh, sourceOf, endOf, linkWord}
-use Rattle.meaning.specs.Rule.{ruleWord, live, linkOf, rank, lower, upper, overlap}
+use Rattle.meaning.specs.Hall.{top, zeroes, State, fresh, sourceOf, endOf}
+use Rattle.meaning.specs.Rule.{live, linkOf, rank, lower, upper, overlap}
 use Rattle.meaning.specs.Winner.{ruleAt}
-use Rattle.meaning.proofs.Tables.{Cuts, Numbers, Boundary}
-use Rattle.meaning.specs.Atoms.{isCut, splitCut, splitNumber, splitCount, withCut}
+use Rattle.meaning.proofs.Tables.{Cuts, Numbers}
 use Rattle.meaning.specs.declared.Record.{Record}
-use Rattle.meaning.specs.declared.Record.the-variants.{Hall as hall, Link as link, Close as close, Insert as insert, Remove as remove, Loop as loop, Fate as fate, Reach as reach, Tally as tally}
+use Rattle.meaning.specs.declared.Record.the-variants.{Link as link}
 use Rattle.meaning.specs.declared.Read.{Read}
 use Rattle.meaning.specs.Records.{recordOf, readOf, phaseOf}
-use Rattle.meaning.specs.Step.{Done, when, ragged, clashes, added, refusal, withRule, inserted, withNodes, withLink, closed, leaves, only, accepted, taken, stepFor, stepWith, stepBy, stepOf}
+use Rattle.meaning.specs.Step.{when, refusal, leaves, only, accepted, taken, stepFor, stepWith, stepBy, stepOf}
 use Rattle.meaning.specs.Run.{Came, start, more}
 use Rattle.meaning.proofs.Places.{le-or-lt}
-use Rattle.meaning.proofs.Parted.{split-cuts, split-numbers, split-has, split-keeps, split-count, boundary-is}
 use Rattle.meaning.proofs.Constant.{Aligned}
 use Rattle.meaning.proofs.Members.{or-neither}
 use Rattle.meaning.proofs.Begins.{Begins, nothing, unread, whole, begins}

@@ -12,7 +12,7 @@ use lib.ListN.{length, getD, set}
 use borrow.Author.Tests.{ltb-true, ltb-false, lt-ltb, le-ltb, eq-eqb, ne-eqb}
 use Rattle.meaning.specs.Search.{pick}
 use Rattle.meaning.specs.Hall.{State, sourceOf}
-use Rattle.meaning.specs.Rule.{linkOf, rank, upper, covers}
+use Rattle.meaning.specs.Rule.{linkOf, rank, covers}
 use Rattle.meaning.specs.Winner.{better, ruleAt, eligible, winner, linkFor, nextAt}
 use Rattle.meaning.specs.Labels.{ownerWord}
 use Rattle.meaning.specs.Changes.{linkOrNone, changedAt, entryAt, entriesAt, overwrite}
