@@ -2,7 +2,7 @@
 ghost use mathlib.Core.Path.{_≡_};
 ghost use mathlib.Core.Bool.{false};
 ghost use Prim.Native.Nat.{_+_, _<_};
-ghost use Rattle.questions.specs.Leads.{Empty, Leads, Joined, OffLeads, Met, Widened, TowardLeads, OffWalks, TowardWalks};
+ghost use Rattle.questions.specs.Leads.{Empty, Leads, LetLead, OffLeads, Met, Widened, TowardLeads, OffWalks, TowardWalks};
 
 // Whether link l has an atom.
 fn carries(label: &[u64; 512], l: usize) -> bool
@@ -24,14 +24,14 @@ fn carries(label: &[u64; 512], l: usize) -> bool
 // Lets node v lead to node u.
 fn join(lead: &mut [u16; 16], v: usize, u: u16)
     requires { ⌜ (v < 16) × (u < 16) ⌝ }
-    ensures { λ r. ⌜ Joined (now (lead .entry)) (now (lead .exit)) v u ⌝ }
+    ensures { λ r. ⌜ LetLead (now (lead .entry)) (now (lead .exit)) v u ⌝ }
 {
     let s: &mut [u16] = lead;
     s[v] |= 1u16 << u;
 }
 
-// Takes in link l: where it has an atom, and goes from a node to a node, the one leads to the other.
-fn take_in(link: &[u16; 64], label: &[u64; 512], l: usize, lead: &mut [u16; 16])
+// Notes link l: where it has an atom, and goes from a node to a node, the one leads to the other.
+fn note_link(link: &[u16; 64], label: &[u64; 512], l: usize, lead: &mut [u16; 16])
     requires { ⌜ (l < 64) × Leads (now link) (now label) l (now lead) ⌝ }
     ensures { λ r. ⌜ Leads (now (link .entry)) (now (label .entry)) (l + 1) (now (lead .exit)) ⌝ }
 {
@@ -54,7 +54,7 @@ fn leads(link: &[u16; 64], label: &[u64; 512], lead: &mut [u16; 16])
 {
     let mut l: usize = 0;
     while l < 64 {
-        take_in(link, label, l, lead);
+        note_link(link, label, l, lead);
         l += 1;
     }
 }
