@@ -3,7 +3,7 @@ use mathlib.Core.Path.{_≡_, refl, sym, ap}
 use mathlib.Core.List.{List}
 use mathlib.Core.Bool.{true}
 use mathlib.Core.Logic.{_⊎_, inl, inr}
-use Prim.Native.Nat.{ℕ, _≤_, _<_}
+use Prim.Native.Nat.{ℕ, _≤_}
 use native.Mathlib.Omega.{arith}
 use denote.Enum.Declared.{tagOf}
 use Rattle.meaning.proofs.Record.{the-type}
@@ -27,20 +27,20 @@ from-three t (inr (inr (inr (inr (inl e))))) = omega (arith, e)
 from-three t (inr (inr (inr (inr (inr e))))) = omega (arith, e)
 
 -- no hall, link or close: it comes after the close
-pub not-before : (r : Record) → (kindOf r ≡ 3) ⊎ ((kindOf r ≡ 4) ⊎ ((kindOf r ≡ 5) ⊎ ((kindOf r ≡ 6) ⊎ ((kindOf r ≡ 7) ⊎ (kindOf r ≡ 8))))) → phaseOf r < 2 → ⊥
+pub not-before : (r : Record) → (kindOf r ≡ 3) ⊎ ((kindOf r ≡ 4) ⊎ ((kindOf r ≡ 5) ⊎ ((kindOf r ≡ 6) ⊎ ((kindOf r ≡ 7) ⊎ (kindOf r ≡ 8))))) → (phaseOf r ≡ 2 → ⊥) → ⊥
 unfolding phaseOf
 not-before r k = go r (from-three (kindOf r) k)
   where
-    go : (r : Record) → 3 ≤ kindOf r → phaseOf r < 2 → ⊥
+    go : (r : Record) → 3 ≤ kindOf r → (phaseOf r ≡ 2 → ⊥) → ⊥
     go (hall _) h p = omega (arith, h)
     go (link _ _ _) h p = omega (arith, h)
     go close h p = omega (arith, h)
-    go (insert _ _ _ _ _) h p = omega (arith, p)
-    go (remove _) h p = omega (arith, p)
-    go loop h p = omega (arith, p)
-    go (fate _ _) h p = omega (arith, p)
-    go (reach _ _) h p = omega (arith, p)
-    go (tally _) h p = omega (arith, p)
+    go (insert _ _ _ _ _) h p = p refl
+    go (remove _) h p = p refl
+    go loop h p = p refl
+    go (fate _ _) h p = p refl
+    go (reach _ _) h p = p refl
+    go (tally _) h p = p refl
 
 around : (t : ℕ) → (t ≡ 0) ⊎ ((t ≡ 1) ⊎ ((t ≡ 2) ⊎ ((t ≡ 5) ⊎ ((t ≡ 6) ⊎ ((t ≡ 7) ⊎ (t ≡ 8)))))) → (t ≡ 3 → ⊥) × (t ≡ 4 → ⊥)
 around t (inl e) = (λ h. omega (arith, e, h), λ h. omega (arith, e, h))
@@ -52,11 +52,11 @@ around t (inr (inr (inr (inr (inr (inl e)))))) = (λ h. omega (arith, e, h), λ 
 around t (inr (inr (inr (inr (inr (inr e)))))) = (λ h. omega (arith, e, h), λ h. omega (arith, e, h))
 
 -- no insert or remove, and after the close: it is a question
-pub question : (r : Record) → (kindOf r ≡ 0) ⊎ ((kindOf r ≡ 1) ⊎ ((kindOf r ≡ 2) ⊎ ((kindOf r ≡ 5) ⊎ ((kindOf r ≡ 6) ⊎ ((kindOf r ≡ 7) ⊎ (kindOf r ≡ 8)))))) → 2 ≤ phaseOf r → isQuestion r ≡ true
+pub question : (r : Record) → (kindOf r ≡ 0) ⊎ ((kindOf r ≡ 1) ⊎ ((kindOf r ≡ 2) ⊎ ((kindOf r ≡ 5) ⊎ ((kindOf r ≡ 6) ⊎ ((kindOf r ≡ 7) ⊎ (kindOf r ≡ 8)))))) → phaseOf r ≡ 2 → isQuestion r ≡ true
 unfolding phaseOf isQuestion
 question r k = let n = around (kindOf r) k in go r (n .0) (n .1)
   where
-    go : (r : Record) → (kindOf r ≡ 3 → ⊥) → (kindOf r ≡ 4 → ⊥) → 2 ≤ phaseOf r → isQuestion r ≡ true
+    go : (r : Record) → (kindOf r ≡ 3 → ⊥) → (kindOf r ≡ 4 → ⊥) → phaseOf r ≡ 2 → isQuestion r ≡ true
     go (hall _) a b p = absurd (omega (arith, p))
     go (link _ _ _) a b p = absurd (omega (arith, p))
     go close a b p = absurd (omega (arith, p))

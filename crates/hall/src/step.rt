@@ -158,7 +158,7 @@ fn take_close(h: Hall, passed: usize) -> Step
 // What a record before the close does: only the links may change.
 fn set_up(h: Hall, link: &mut [u16; 64], passed: usize, what: Record) -> Step
     requires { ⌜ h .nodes ≤ 16 ⌝ }
-    ensures { λ r. ⌜ ((rule cut places label owner list : List ℕ) → Held (stateOf h (now (link .entry)) rule cut places) label owner → h .phase ≡ phaseOf what → h .phase < 2
+    ensures { λ r. ⌜ ((rule cut places label owner list : List ℕ) → Held (stateOf h (now (link .entry)) rule cut places) label owner → h .phase ≡ phaseOf what → (h .phase ≡ 2 → ⊥)
         → left (r .answer) (r .passed) (stateOf (r .hall) (now (link .exit)) rule cut places) label owner list ≡ takes (stateOf h (now (link .entry)) rule cut places) list passed what) ⌝ }
 {
     match what {
@@ -183,7 +183,7 @@ fn act(
     what: Record,
 ) -> Step
     requires { ⌜ Held (stateOf h (now link) (now rule) (now cut) (now number)) (now label) (now owner) ⌝ }
-    requires { ⌜ (h .phase ≡ phaseOf what) × (2560 ≤ length (now list)) × (2 ≤ h .phase) ⌝ }
+    requires { ⌜ (h .phase ≡ phaseOf what) × (2560 ≤ length (now list)) × (h .phase ≡ 2) ⌝ }
     ensures { λ s. ⌜ left (s .answer) (s .passed) (stateOf (s .hall) (now (link .entry)) (now (rule .exit)) (now (cut .exit)) (now (number .exit))) (now (label .exit)) (now (owner .exit)) (now (list .exit))
         ≡ leftFor (stateOf h (now (link .entry)) (now (rule .entry)) (now (cut .entry)) (now (number .entry))) (now (list .entry)) (Got what passed) ⌝ }
 {
@@ -243,7 +243,7 @@ pub fn take_record(
             if h.phase != phase_of(what) {
                 return only(h, passed, Answer::Refused(3));
             }
-            if h.phase < 2 {
+            if h.phase != 2 {
                 return set_up(h, link, passed, what);
             }
             act(h, link, rule, cut, number, label, owner, list, passed, what)

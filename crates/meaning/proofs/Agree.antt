@@ -3,10 +3,10 @@ use mathlib.Core.Path.{_≡_, refl, ap, _∙_, fun-ext}
 use mathlib.Core.List.{List, [], _∷_}
 use Prim.Native.Nat.{ℕ, zero, suc, _+_}
 use lib.ListN.{length, drop}
-use Rattle.meaning.specs.Hall.{State, fresh}
+use Rattle.meaning.specs.Hall.{State}
 use Rattle.meaning.specs.Changes.{overwrite}
 use Rattle.meaning.specs.Step.{Done, stepBy, stepOf, stepIn}
-use Rattle.meaning.specs.Run.{Came, Line, Ran, onward, runFrom, linesFrom, runOf, linesOf, start, more}
+use Rattle.meaning.specs.Run.{Came, Line, Ran, onward, runFrom, linesFrom, more}
 use Rattle.meaning.proofs.Constant.{by-place}
 use Rattle.meaning.proofs.Sound.{Sound}
 use Rattle.meaning.proofs.Kept.{sound}

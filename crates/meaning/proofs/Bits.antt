@@ -1,12 +1,12 @@
 -- The bits of a number, and what the machine's operations do to each of them. Assumes nothing.
 use mathlib.Core.Bool.{Bool, true, false, _||_, _&&_, not}
 use mathlib.Core.Path.{_≡_, refl, sym, ap, ap₂, _∙_}
-use Prim.Native.Nat.{ℕ, zero, suc, _+_, _-_, _*_, _/_, _%_, _^_, _<_, min, max}
+use Prim.Native.Nat.{ℕ, zero, suc, _+_, _-_, _*_, _/_, _%_, _^_, _≤_, _<_, min, max}
 use native.Mathlib.Nat.{mod-lt, zero-div, not-suc-le-zero, pow-suc, zero-lt-suc, mod-eq-of-lt, one-mul, sub-zero, le-of-suc-le-suc}
 use native.Mathlib.Omega.{arith}
 use lib.Dec.{eqb, eqb·zero-suc, eqb·suc-zero, eqb·suc-suc}
 use lib.Arith.{lt-one}
-use lib.Pow.{pow-pos, pow-lt}
+use lib.Pow.{pow-pos, pow-lt, pow-mono}
 use lib.Bits.{bitOr, bitAnd, bitXor, or-step, and-step, or-shr, and-shr, or-add-and, xor-add-and, and-le-l, and-le-r}
 use Rattle.meaning.specs.Search.{pick}
 use Rattle.meaning.specs.Labels.{bit}
@@ -15,7 +15,7 @@ use Rattle.meaning.proofs.Members.{bit-zero, bit-suc}
 pub bit-lt : (w j : ℕ) → bit w j < 2
 bit-lt w j = mod-lt (w / 2 ^ j) (zero-lt-suc 1)
 
-pub bit-of-zero : (j : ℕ) → bit 0 j ≡ 0
+bit-of-zero : (j : ℕ) → bit 0 j ≡ 0
 bit-of-zero j = ap (λ (x : ℕ). x % 2) (zero-div (2 ^ j))
 
 -- ---- a digit and its test
@@ -122,12 +122,12 @@ power-bits b j = ap (λ (x : ℕ). eqb x 1) (bit-power b j) ∙ go (eqb b j)
     go true = refl
     go false = refl
 
--- the word of n ones has every bit
-pub ones-bits : (n j : ℕ) → j < n → eqb (bit (2 ^ n - 1) j) 1 ≡ true
-ones-bits n j h = ap (λ (x : ℕ). eqb (bit x j) 1) (sym (sub-zero (2 ^ n - 1))) ∙ not-bits n 0 j (pow-pos n) h ∙ ap (λ (x : ℕ). not (eqb x 1)) (bit-of-zero j)
+-- 0 has no bit, and the word of n ones has every bit
+pub zero-bits : (j : ℕ) → eqb (bit 0 j) 1 ≡ false
+zero-bits j = ap (λ (x : ℕ). eqb x 1) (bit-of-zero j)
 
-pub all-bits : (j : ℕ) → j < 64 → eqb (bit 18446744073709551615 j) 1 ≡ true
-all-bits j h = ones-bits 64 j h
+pub ones-bits : (n j : ℕ) → j < n → eqb (bit (2 ^ n - 1) j) 1 ≡ true
+ones-bits n j h = ap (λ (x : ℕ). eqb (bit x j) 1) (sym (sub-zero (2 ^ n - 1))) ∙ not-bits n 0 j (pow-pos n) h ∙ ap not (zero-bits j)
 
 -- two words that join to none are none, and two that differ nowhere are one
 pub or-none : (a b : ℕ) → bitOr a b ≡ 0 → (a ≡ 0) × (b ≡ 0)
@@ -148,9 +148,9 @@ clear-bit w b j hb hj = without-bits w (2 ^ b) j (pow-lt hb) hj ∙ ap (λ (t : 
 pub shifted : (n b : ℕ) → b < n → 1 * 2 ^ b % 2 ^ n ≡ 2 ^ b
 shifted n b h = ap (λ (x : ℕ). x % 2 ^ n) (one-mul (2 ^ b)) ∙ mod-eq-of-lt (pow-lt h)
 
--- at 64 bits: a link's, and `1 << (k % 64)` without side condition, so that `rw mask` closes what a shift leaves
-pub mask-link : (l : ℕ) → l < 64 → 1 * 2 ^ l % 2 ^ 64 ≡ 2 ^ l
-mask-link = shifted 64
-
+-- `1 << (k % 64)` at 64 bits has no side condition, so that `rw mask` closes what such a shift leaves
 pub mask : (k : ℕ) → 1 * 2 ^ (k % 64) % 2 ^ 64 ≡ 2 ^ (k % 64)
 mask k = shifted 64 (k % 64) (mod-lt k (zero-lt-suc 63))
+
+pub mask-le : (k : ℕ) → 1 * 2 ^ (k % 64) % 2 ^ 64 ≤ 2 ^ 63
+mask-le k = rw mask (pow-mono {i = k % 64} {j = 63} (omega arith))

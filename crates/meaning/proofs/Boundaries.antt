@@ -26,10 +26,10 @@ use Rattle.meaning.specs.Run.{Came, start, more}
 use Rattle.meaning.proofs.Tables.{Cuts, Boundary}
 use Rattle.meaning.proofs.Insert.{insert-below, insert-same, insert-over}
 use Rattle.meaning.proofs.Places.{Order, less, same, more as past, order}
-use Rattle.meaning.proofs.Parted.{within, is-boundary, boundary-is, split-has, split-keeps, split-count}
+use Rattle.meaning.proofs.Parted.{within, is-boundary, boundary-is, split-count}
 use Rattle.meaning.proofs.Sound.{Sound, when-none}
 use Rattle.meaning.proofs.Words.{Sized, Fits, lower-of, upper-of}
-use Rattle.meaning.proofs.Kept.{Clear, clear, lower-top, upper-top, room-lower, room-upper, S₁, missing, count₁, sound}
+use Rattle.meaning.proofs.Kept.{Clear, clear, rule-fits, Room, room-for, room-lower, keeps-lower, missing, count-lower, room-upper, ends-keep, has-lower, has-upper, sound}
 use Rattle.meaning.proofs.Steps.{Stepped, short, ended, unread, turned, took, reads-fit, stepped}
 
 -- a split makes b a boundary and no other number
@@ -55,81 +55,66 @@ split-only top cut n b w bt room x = go (isCut cut n b) refl
 
 -- ---- an accepted insert
 
-module _ (m : State) (S : Sound m) (r l p n t : ℕ) (F : Sized l p t) (ph : m .phase ≡ 2) (C : Clear m r l p n t) where
-  abbrev W : ℕ
-  W = ruleWord l p n t
+module _ (m : State) (S : Sound m) (r l p n t : ℕ) (F : Sized l p t) (C : Clear m r l p n t) where
+  abbrev w : ℕ
+  w = ruleWord l p n t
 
   abbrev M : State
-  M = withCut m (lower W)
+  M = withCut m (lower w)
 
   abbrev N : State
-  N = inserted m r W
+  N = inserted m r w
 
-  small : l < 64
-  small = omega (arith, C .declared, S .few)
+  R : Room m w
+  R = room-for m S F C
 
-  pub from-is : lower W ≡ p
-  from-is = lower-of l p n t small (F .prefix) (C .long) (F .priority)
+  from-is : lower w ≡ p
+  from-is = lower-of (rule-fits S F C)
 
-  pub to-is : upper W ≡ p + 2 ^ (32 - n)
-  to-is = upper-of l p n t small (F .prefix) (C .long) (F .priority)
-
-  S′ : Sound M
-  S′ = S₁ m S r l p n t F ph C
-
-  hi : upper W ≤ top
-  hi = upper-top m S r l p n t F ph C
-
-  lo : lower W ≤ top
-  lo = lower-top m S r l p n t F ph C
-
-  room-lo : isCut (m .cut) (m .atoms) (lower W) ≡ false → m .atoms < 512
-  room-lo = room-lower m S r l p n t F ph C
-
-  room-hi : isCut (M .cut) (M .atoms) (upper W) ≡ false → M .atoms < 512
-  room-hi = room-upper m S r l p n t F ph C
+  to-is : upper w ≡ p + 2 ^ (32 - n)
+  to-is = upper-of (rule-fits S F C)
 
   -- both ends are boundaries then, what was one still is, and nothing else has become one
   insert-keeps : (x : ℕ) → Boundary (m .cut) (m .atoms) x → Boundary (N .cut) (N .atoms) x
-  unfolding inserted withRule withCut
-  insert-keeps x h = split-keeps top (M .cut) (M .atoms) (upper W) (S′ .cuts) hi room-hi x (split-keeps top (m .cut) (m .atoms) (lower W) (S .cuts) lo room-lo x h)
-
-  has-lower : Boundary (N .cut) (N .atoms) (lower W)
-  unfolding inserted withRule withCut
-  has-lower = split-keeps top (M .cut) (M .atoms) (upper W) (S′ .cuts) hi room-hi (lower W) (split-has top (m .cut) (m .atoms) (lower W) (S .cuts) lo room-lo)
-
-  has-upper : Boundary (N .cut) (N .atoms) (upper W)
-  unfolding inserted withRule withCut
-  has-upper = split-has top (M .cut) (M .atoms) (upper W) (S′ .cuts) hi room-hi
+  unfolding inserted withRule
+  insert-keeps = ends-keep m S w R
 
   insert-has : (x : ℕ) → (x ≡ p) ⊎ (x ≡ p + 2 ^ (32 - n)) → Boundary (N .cut) (N .atoms) x
-  insert-has x (inl e) = subst (Boundary (N .cut) (N .atoms)) (from-is ∙ sym e) has-lower
-  insert-has x (inr e) = subst (Boundary (N .cut) (N .atoms)) (to-is ∙ sym e) has-upper
+  unfolding inserted withRule
+  insert-has x (inl e) = subst (Boundary (N .cut) (N .atoms)) (from-is ∙ sym e) (has-lower m S w R)
+  insert-has x (inr e) = subst (Boundary (N .cut) (N .atoms)) (to-is ∙ sym e) (has-upper m S w R)
+
+  -- what each of the two splits makes a boundary
+  lower-only : (x : ℕ) → Boundary (M .cut) (M .atoms) x → (x ≡ lower w) ⊎ Boundary (m .cut) (m .atoms) x
+  unfolding withCut
+  lower-only = split-only top (m .cut) (m .atoms) (lower w) (S .cuts) (R .lower-top) (room-lower m S w R)
+
+  upper-only : (x : ℕ) → Boundary (N .cut) (N .atoms) x → (x ≡ upper w) ⊎ Boundary (M .cut) (M .atoms) x
+  unfolding inserted withRule withCut
+  upper-only = split-only top (M .cut) (M .atoms) (upper w) (keeps-lower m S w R .cuts) (R .upper-top) (room-upper m S w R)
 
   insert-only : (x : ℕ) → Boundary (N .cut) (N .atoms) x → ((x ≡ p) ⊎ (x ≡ p + 2 ^ (32 - n))) ⊎ Boundary (m .cut) (m .atoms) x
-  unfolding inserted withRule withCut
   insert-only x h =
-      ⊎-elim (λ (e : x ≡ upper W). inl (inr (e ∙ to-is))) (λ (g : Boundary (M .cut) (M .atoms) x).
-      ⊎-elim (λ (e : x ≡ lower W). inl (inl (e ∙ from-is))) inr (split-only top (m .cut) (m .atoms) (lower W) (S .cuts) lo room-lo x g))
-      (split-only top (M .cut) (M .atoms) (upper W) (S′ .cuts) hi room-hi x h)
+      ⊎-elim (λ (e : x ≡ upper w). inl (inr (e ∙ to-is))) (λ (g : Boundary (M .cut) (M .atoms) x).
+      ⊎-elim (λ (e : x ≡ lower w). inl (inl (e ∙ from-is))) inr (lower-only x g)) (upper-only x h)
 
   -- so the count of check 13 is exact: as many boundaries are added as it says
-  same-cut : isCut (M .cut) (M .atoms) (upper W) ≡ isCut (m .cut) (m .atoms) (upper W)
+  same-cut : isCut (M .cut) (M .atoms) (upper w) ≡ isCut (m .cut) (m .atoms) (upper w)
   same-cut = go _ refl _ refl
     where
-      go : (x : Bool) → isCut (M .cut) (M .atoms) (upper W) ≡ x → (y : Bool) → isCut (m .cut) (m .atoms) (upper W) ≡ y → x ≡ y
+      go : (x : Bool) → isCut (M .cut) (M .atoms) (upper w) ≡ x → (y : Bool) → isCut (m .cut) (m .atoms) (upper w) ≡ y → x ≡ y
       go true e true f = refl
       go true e false f =
-          ⊎-elim (λ (q : upper W ≡ lower W). absurd (omega (arith, from-is, to-is, pow-pos (32 - n))))
-          (λ (g : Boundary (m .cut) (m .atoms) (upper W)). sym (boundary-is (S .cuts) (upper W) g) ∙ f)
-          (split-only top (m .cut) (m .atoms) (lower W) (S .cuts) lo room-lo (upper W) (unfold withCut in is-boundary (M .cut) (M .atoms) (upper W) e))
-      go false e y f = sym (missing m S r l p n t F ph C e) ∙ f
+          ⊎-elim (λ (q : upper w ≡ lower w). absurd (omega (arith, from-is, to-is, pow-pos (32 - n))))
+          (λ (g : Boundary (m .cut) (m .atoms) (upper w)). sym (boundary-is (S .cuts) (upper w) g) ∙ f)
+          (lower-only (upper w) (is-boundary (M .cut) (M .atoms) (upper w) e))
+      go false e y f = sym (missing m S w R e) ∙ f
 
-  pub insert-count : N .atoms ≡ m .atoms + added m W
+  pub insert-count : N .atoms ≡ m .atoms + added m w
   unfolding inserted withRule withCut added
   insert-count =
-      split-count top (M .cut) (M .atoms) (upper W) (S′ .cuts) hi room-hi
-      ∙ ap (λ (x : Bool). M .atoms + pick x 0 1) same-cut ∙ (let e = count₁ m S r l p n t F ph C in omega (arith, e))
+      split-count top (M .cut) (M .atoms) (upper w) (keeps-lower m S w R .cuts) (R .upper-top) (room-upper m S w R)
+      ∙ ap (λ (x : Bool). M .atoms + pick x 0 1) same-cut ∙ (let e = count-lower m S w R in omega (arith, e))
 
 -- ---- since the start
 
@@ -171,7 +156,7 @@ module _ (m : State) (S : Sound m) (x : ℕ) where
   record-keeps (hall n) f ph ok h = h
   record-keeps (link s c e) f ph ok h = h
   record-keeps close f ph ok h = h
-  record-keeps (insert r l p n t) f ph ok h = insert-keeps m S r l p n t f ph (clear m r l p n t ok) x h
+  record-keeps (insert r l p n t) f ph ok h = insert-keeps m S r l p n t f (clear m r l p n t ok) x h
   record-keeps (remove r) f ph ok h = h
   record-keeps loop f ph ok h = h
   record-keeps (fate v a) f ph ok h = h
@@ -183,7 +168,7 @@ module _ (m : State) (S : Sound m) (x : ℕ) where
   record-has (hall n) f ph ok h = absurd h
   record-has (link s c e) f ph ok h = absurd h
   record-has close f ph ok h = absurd h
-  record-has (insert r l p n t) f ph ok h = insert-has m S r l p n t f ph (clear m r l p n t ok) x h
+  record-has (insert r l p n t) f ph ok h = insert-has m S r l p n t f (clear m r l p n t ok) x h
   record-has (remove r) f ph ok h = absurd h
   record-has loop f ph ok h = absurd h
   record-has (fate v a) f ph ok h = absurd h
@@ -197,7 +182,7 @@ module _ (m : State) (S : Sound m) (x : ℕ) where
   record-only ask (hall n) f ph ok h = inr h
   record-only ask (link s c e) f ph ok h = inr h
   record-only ask close f ph ok h = inr h
-  record-only ask (insert r l p n t) f ph ok h = ⊎-elim (λ e. inl (e, (_, refl))) inr (insert-only m S r l p n t f ph (clear m r l p n t ok) x h)
+  record-only ask (insert r l p n t) f ph ok h = ⊎-elim (λ e. inl (e, (_, refl))) inr (insert-only m S r l p n t f (clear m r l p n t ok) x h)
   record-only ask (remove r) f ph ok h = inr h
   record-only ask loop f ph ok h = inr h
   record-only ask (fate v a) f ph ok h = inr h

@@ -2,29 +2,26 @@
 -- Assumes nothing.
 use mathlib.Core.Path.{_≡_, refl, sym, ap, _∙_, subst⁻¹}
 use mathlib.Core.List.{List, []}
-use mathlib.Core.Bool.{Bool, true, false, not, _&&_}
+use mathlib.Core.Bool.{true}
 use mathlib.Core.Option.{Option, none, some}
-use Prim.Native.Nat.{ℕ, _+_, _≤_, _<_}
-use lib.Dec.{ltb, eqb}
-use lib.ListN.{length, getD}
-use borrow.Author.Tests.{lt-ltb, le-ltb, eq-eqb, ne-eqb, ltb-false, leb-false, eqb-true, not-false}
+use Prim.Native.Nat.{ℕ, _≤_, _<_}
+use lib.ListN.{length}
+use borrow.Author.Tests.{lt-ltb, le-ltb, eq-eqb, ne-eqb}
 use Rattle.meaning.specs.declared.Answer.{Answer}
 use Rattle.meaning.specs.declared.Answer.the-variants.{End, Refused, Ok, Changed}
 use Rattle.meaning.specs.declared.Read.{Read}
 use Rattle.meaning.specs.declared.Read.the-variants.{End as Nothing, Refused as Unread, Got}
 use Rattle.meaning.specs.declared.Record.{Record}
-use Rattle.meaning.specs.declared.Record.the-variants.{Link as link, Insert as insert, Remove as remove}
-use Rattle.meaning.specs.Search.{pick}
+use Rattle.meaning.specs.declared.Record.the-variants.{Insert as insert, Remove as remove}
 use Rattle.meaning.specs.Hall.{State}
 use Rattle.meaning.specs.Labels.{labelsOf, ownersOf}
 use Rattle.meaning.specs.Changes.{entriesAt, overwrite}
 use Rattle.meaning.specs.Questions.{byAddress}
 use Rattle.meaning.specs.Records.{readOf, phaseOf, isQuestion}
-use Rattle.meaning.specs.Step.{Done, when, refusal, turnedBy, leaves, listed, nodeOf, changes, only, answers, accepted, taken, stepFor, stepWith, stepBy, stepOf, replyTo}
+use Rattle.meaning.specs.Step.{when, refusal, turnedBy, leaves, listed, nodeOf, changes, only, answers, accepted, taken, stepFor, stepWith, stepBy, stepOf, replyTo}
 use Rattle.meaning.specs.Run.{Came, more}
 use Rattle.meaning.specs.Answers.{said}
 use Rattle.meaning.specs.Box.{Held, Left, left, leftBy, leftFor, leftOf}
-use Rattle.meaning.proofs.Sound.{when-none, or-false}
 use Rattle.meaning.proofs.Steps.{question-keeps}
 use Rattle.meaning.proofs.Kept.{sound}
 use Rattle.meaning.proofs.Owners.{Words, Listed}
@@ -61,8 +58,6 @@ module _ (m m′ : State) (label′ owner′ list list′ s : List ℕ) (a : Ans
     labels = ap (λ (x : Left). x .label) e ∙ ap labelsOf (sym left-state);
     owners = ap (λ (x : Left). x .owner) e ∙ ap ownersOf (sym left-state);
   }
-
--- ---- a step by what the bytes begin with
 
 -- ---- an answer alone leaves everything as it was
 
@@ -147,24 +142,3 @@ pub remove-takes : (m : State) (i : ℕ) → (label′ owner′ list list′ : L
 unfolding answers changes leaves nodeOf
 remove-takes m i label′ owner′ list list′ k n words L ok m′ state =
     updated-takes m (remove i) label′ owner′ list list′ k n words L ok m′ state refl refl
-
--- ---- what the checks of a link say, once they have passed
-
-pub record LinkPasses (m : State) (s c e : ℕ) : Type 0 where
-  pub room : m .links < 64
-  pub source : s < m .nodes
-  pub code : c ≤ 2
-  pub drop : c ≡ 2 → e ≡ 0
-
-pub link-passes : (m : State) (s c e : ℕ) → refusal m (link s c e) ≡ none → LinkPasses m s c e
-unfolding refusal
-link-passes m s c e ok =
-    let a = when-none _ _ _ ok in
-    let b = when-none _ _ _ (a .1) in
-    let d = or-false (ltb 2 c) (eqb c 2 && not (eqb e 0)) (when-none _ _ _ (b .1) .0) in
-    record {
-      room = leb-false 64 (m .links) (a .0);
-      source = leb-false (m .nodes) s (b .0);
-      code = ltb-false 2 c (d .0);
-      drop = λ two. eqb-true e 0 (not-false _ (rw (eq-eqb c 2 two) at (d .1)));
-    }

@@ -9,7 +9,6 @@ use native.Mathlib.Numerals.{add-one}
 use native.Mathlib.Decide.{ℕ-discrete}
 use native.Mathlib.Omega.{arith}
 use lib.ListN.{getD}
-use borrow.Author.Tests.{ne-eqb}
 use Rattle.meaning.specs.declared.Fate.{Fate}
 use Rattle.meaning.specs.declared.Answer.the-variants.{Loop, NoLoop, Yes, No, Tally}
 use Rattle.meaning.specs.declared.Record.{Record}
@@ -26,8 +25,8 @@ use Rattle.meaning.proofs.Members.{any-true}
 use Rattle.meaning.proofs.Searches.{lowest-off, lowest-first}
 use Rattle.meaning.proofs.Circles.{circle-never}
 use Rattle.meaning.proofs.Means.{closed-in, round-is, circle-is, loop-circle}
-use Rattle.meaning.proofs.Owners.{ownerIn, via, nextIn, endIn, Ends, Whole}
-use Rattle.meaning.proofs.Labelled.{next-is, end-is, ends-in}
+use Rattle.meaning.proofs.Owners.{ownerIn, nextIn, endIn, Ends, Whole}
+use Rattle.meaning.proofs.Labelled.{via-named, next-is, end-is, ends-in}
 
 -- ---- the lowest place with P, and how many addresses have it
 
@@ -93,10 +92,9 @@ module _ (m : State) (label owner : List ℕ) (W : Whole m label owner) where
   small-atom p h = omega (arith, W .sound .numbers .small p h, W .sound .cuts .room)
 
   pub ends-of : Ends (m .link) owner
-  unfolding via
   ends-of = record {
     inside = λ k v hk hv n l.
-        let e : via (ownerIn owner k v) ≡ ownerIn owner k v / 512 % 64 = rw (ne-eqb (ownerIn owner k v) 0 n) in
+        let e = via-named (ownerIn owner k v) n in
         let r : (endIn (m .link) (ownerIn owner k v / 512 % 64) < 256 → endIn (m .link) (ownerIn owner k v / 512 % 64) < m .nodes) = rw e at (ends-in m label owner W k v hk hv n .1) in
         omega (arith, r l, W .sound .small);
   }
@@ -105,12 +103,8 @@ module _ (m : State) (label owner : List ℕ) (W : Whole m label owner) where
   unfolding fateOf
   fate-at v a p h = rw (next-is m label owner W a p h, end-is m)
 
-  -- the lower end of a place lies in it
-  pub lower-end : (p : ℕ) → p < m .atoms → Holds (m .cut) (m .atoms) (getD (m .cut) p 0) p
-  lower-end = lower-holds (W .sound .cuts)
-
   links-are : (p : ℕ) → p < m .atoms → linksAt (m .number) owner p ≡ nextAt m (getD (m .cut) p 0)
-  links-are p h = next-is m label owner W (getD (m .cut) p 0) p (lower-end p h)
+  links-are p h = next-is m label owner W (getD (m .cut) p 0) p (lower-holds (W .sound .cuts) p h)
 
   places : (r : Record) → byAddress m r ≡ byPlace m r
   places = by-place m (W .sound .cuts) (W .sound .aligned)
@@ -185,7 +179,7 @@ module _ (m : State) (label owner : List ℕ) (W : Whole m label owner) where
     pub tally-more : p < m .atoms → Tallied m v p out lost round → (f : Fate) → f ≡ fateIn (linksAt (m .number) owner p) (endIn (m .link)) (m .nodes) 0 v
         → Tallied m v (p + 1) (out + pick (isOut f) (width (m .cut) p) 0) (lost + pick (isLost f) (width (m .cut) p) 0) (round + pick (isRound f) (width (m .cut) p) 0)
     tally-more h T f e =
-        let q : f ≡ fateOf m v (getD (m .cut) p 0) = e ∙ fate-at v (getD (m .cut) p 0) p (lower-end p h) in
+        let q : f ≡ fateOf m v (getD (m .cut) p 0) = e ∙ fate-at v (getD (m .cut) p 0) p (lower-holds (W .sound .cuts) p h) in
         record {
           out = rw (q, T .out) (sym (count-more (m .cut) (λ a. isOut (fateOf m v a)) p));
           lost = rw (q, T .lost) (sym (count-more (m .cut) (λ a. isLost (fateOf m v a)) p));

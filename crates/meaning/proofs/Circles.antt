@@ -1,12 +1,12 @@
 -- The laws of circles. A walk that never ends comes to a circle within n moves, and goes through all of it in n more.
 -- Assumes nothing.
 use mathlib.Core.Path.{_≡_, refl, sym, _∙_, ap}
-use mathlib.Core.Option.{Option, none, some}
+use mathlib.Core.Option.{Option}
 use Prim.Native.Nat.{ℕ, zero, suc, _+_, _-_, _≤_, _<_}
 use native.Mathlib.Decide.{ℕ-discrete}
 use native.Mathlib.Omega.{arith}
 use Rattle.meaning.specs.Walk.{Place, at, move, after}
-use Rattle.meaning.proofs.Walks.{Going, Never, Closed, Reaches, OnCircle, after-add, after-suc, again, repeats, below, meets, round, Meets}
+use Rattle.meaning.proofs.Walks.{Never, Closed, Reaches, OnCircle, after-add, after-suc, again, repeats, below, meets}
 
 module _ (next : ℕ → Option ℕ) (end : ℕ → ℕ) where
   -- k moves on from where m moves lead

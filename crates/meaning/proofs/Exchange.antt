@@ -23,7 +23,7 @@ use Rattle.meaning.specs.Step.{withRule, inserted, listed, changes}
 use Rattle.meaning.proofs.Words.{Sized, link-of, free-zero}
 use Rattle.meaning.proofs.Sound.{Sound}
 use Rattle.meaning.proofs.Lists.{places-same}
-use Rattle.meaning.proofs.Kept.{Clear}
+use Rattle.meaning.proofs.Kept.{Clear, rule-fits}
 use Rattle.meaning.specs.Walk.{at, after, standsAt, comesTo}
 use Rattle.meaning.proofs.Members.{any-true, any-some}
 use Rattle.meaning.proofs.Walks.{Closed, Reaches, going-le, again, meets}
@@ -78,7 +78,7 @@ module _ (m : State) (S : Sound m) (r l p n t : ℕ) (F : Sized l p t) (C : Clea
   pub node-there : sourceOf there (linkOf (ruleAt there r)) ≡ sourceOf m l
   unfolding sourceOf
   node-there =
-      rw rule-there (ap (λ (x : ℕ). getD (there .link) x 0 / 1024) (link-of l p n t (omega (arith, C .declared, S .few)) (F .prefix) (C .long) (F .priority)) ∙ (unfold inserted withRule withCut in refl))
+      rw rule-there (ap (λ (x : ℕ). getD (there .link) x 0 / 1024) (link-of (rule-fits S F C)) ∙ (unfold inserted withRule withCut in refl))
 
   -- THE LAW: the same places
   pub exchanged : changes there (remove r) ≡ changes m (insert r l p n t)

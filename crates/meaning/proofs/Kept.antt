@@ -1,6 +1,5 @@
 -- Each accepted record keeps a state sound, so a state that came from the fresh one by records is sound. Assumes nothing.
 use mathlib.Core.Path.{_≡_, refl, sym, ap, _∙_}
-use mathlib.Core.Logic.{_≢_}
 use mathlib.Core.Bool.{Bool, true, false, not, _&&_, true≢false}
 use mathlib.Core.Option.{none}
 use Prim.Native.Nat.{ℕ, _+_, _-_, _*_, _/_, _%_, _^_, _≤_, _<_}
@@ -21,9 +20,10 @@ use Rattle.meaning.specs.declared.Record.the-variants.{Hall as hall, Lin
 use Rattle.meaning.specs.Records.{phaseOf}
 use Rattle.meaning.specs.Step.{ragged, clashes, added, refusal, withRule, inserted, withNodes, withLink, closed, leaves}
 use Rattle.meaning.proofs.Parted.{is-boundary, split-cuts, split-numbers, split-has, split-keeps, split-count, boundary-is}
-use Rattle.meaning.proofs.Words.{link-of, lower-of, upper-of, within-top, Sized, Fits}
+use Rattle.meaning.proofs.Words.{RuleFits, link-of, lower-of, upper-of, within-top, Sized, Fits}
 use Rattle.meaning.specs.Run.{Came}
-use Rattle.meaning.proofs.Sound.{came-keeps, Sound, fresh-sound, when-none, or-false, any-false, overlap-comm}
+use Rattle.meaning.proofs.Sound.{came-keeps, Sound, fresh-sound, when-none, any-false, overlap-comm}
+use Rattle.meaning.proofs.Members.{or-neither}
 
 -- ---- what an accepted record has passed
 
@@ -41,7 +41,7 @@ clear-link m s c e ok =
     let b = when-none _ _ _ (a .1) in
     let d = when-none _ _ _ (b .1) in
     let f = when-none _ _ _ (d .1) in
-    let g = or-false (ltb 2 c) (eqb c 2 && not (eqb e 0)) (d .0) in
+    let g = or-neither (ltb 2 c) (eqb c 2 && not (eqb e 0)) (d .0) in
     record {
       room = leb-false 64 (m .links) (a .0);
       source = leb-false (m .nodes) s (b .0);
@@ -68,7 +68,7 @@ clear m r l p n t ok =
     let d = when-none _ _ _ (c .1) in
     let e = when-none _ _ _ (d .1) in
     let f = when-none _ _ _ (e .1) in
-    let g = or-false (ltb 32 n) (not (eqb (p % 2 ^ (32 - n)) 0)) (d .0) in
+    let g = or-neither (ltb 32 n) (not (eqb (p % 2 ^ (32 - n)) 0)) (d .0) in
     record {
       number = omega (arith, ltb-false 255 r (a .0));
       free = b .0;
@@ -95,7 +95,7 @@ module _ (m : State) (S : Sound m) where
   keeps-hall : (n : ℕ) → m .phase ≡ 0 → refusal m (hall n) ≡ none → Sound (withNodes m n)
   unfolding refusal withNodes ruleAt sourceOf endOf
   keeps-hall n ph ok =
-      let a = or-false (eqb n 0) (ltb 16 n) (when-none _ _ _ ok .0) in
+      let a = or-neither (eqb n 0) (ltb 16 n) (when-none _ _ _ ok .0) in
       let z = S .bare ph in
       record {
         cuts = S .cuts;
@@ -278,61 +278,82 @@ keeps-remove m S r hr ph = keeps-rule m S r 0 hr ph (λ e. absurd (true≢false 
 
 -- ---- an insert
 
-module _ (m : State) (S : Sound m) (r l p n t : ℕ) (F : Sized l p t) (ph : m .phase ≡ 2) (C : Clear m r l p n t) where
-  abbrev pub word : ℕ
-  word = ruleWord l p n t
+-- the parts of an accepted rule have room in its word
+pub rule-fits : {m : State} {r l p n t : ℕ} → Sound m → Sized l p t → Clear m r l p n t → RuleFits l p n t
+rule-fits S F C = record { link = omega (arith, C .declared, S .few); prefix = F .prefix; long = C .long; priority = F .priority }
 
-  hl : l < 64
-  hl = omega (arith, C .declared, S .few)
+-- the ends of word w lie in the range, and there is room for a boundary at each
+pub record Room (m : State) (w : ℕ) : Type 0 where
+  pub lower-top : lower w ≤ top
+  pub upper-top : upper w ≤ top
+  pub both : m .atoms + added m w ≤ 512
 
-  pub lower-top : lower word ≤ top
-  lower-top = omega (arith, lower-of l p n t hl (F .prefix) (C .long) (F .priority), F .prefix)
+pub room-for : (m : State) → Sound m → {r l p n t : ℕ} → Sized l p t → Clear m r l p n t → Room m (ruleWord l p n t)
+room-for m S {r} {l} {p} {n} {t} F C = record {
+  lower-top = omega (arith, lower-of (rule-fits S F C), F .prefix);
+  upper-top = omega (arith, upper-of (rule-fits S F C), within-top p n (F .prefix) (C .long) (C .flush));
+  both = C .room;
+}
 
-  pub upper-top : upper word ≤ top
-  upper-top = omega (arith, upper-of l p n t hl (F .prefix) (C .long) (F .priority), within-top p n (F .prefix) (C .long) (C .flush))
-
-  -- there is room for both ends
-  room-both : m .atoms + (pick (isCut (m .cut) (m .atoms) (lower word)) 0 1 + pick (isCut (m .cut) (m .atoms) (upper word)) 0 1) ≤ 512
+module _ (m : State) (S : Sound m) (w : ℕ) (R : Room m w) where
+  pub room-lower : isCut (m .cut) (m .atoms) (lower w) ≡ false → m .atoms < 512
   unfolding added
-  room-both = C .room
+  room-lower e = omega (arith, rw e at (R .both))
 
-  pub room-lower : isCut (m .cut) (m .atoms) (lower word) ≡ false → m .atoms < 512
-  room-lower e = omega (arith, rw e at room-both)
-
-  pub S₁ : Sound (withCut m (lower word))
-  S₁ = keeps-cut m S (lower word) lower-top room-lower
+  pub keeps-lower : Sound (withCut m (lower w))
+  keeps-lower = keeps-cut m S (lower w) (R .lower-top) room-lower
 
   -- what was a boundary still is, so one that is missing now was missing
-  pub missing : isCut (withCut m (lower word) .cut) (withCut m (lower word) .atoms) (upper word) ≡ false → isCut (m .cut) (m .atoms) (upper word) ≡ false
-  missing e = go (isCut (m .cut) (m .atoms) (upper word)) refl
+  pub missing : isCut (withCut m (lower w) .cut) (withCut m (lower w) .atoms) (upper w) ≡ false → isCut (m .cut) (m .atoms) (upper w) ≡ false
+  missing e = go (isCut (m .cut) (m .atoms) (upper w)) refl
     where
-      go : (x : Bool) → isCut (m .cut) (m .atoms) (upper word) ≡ x → x ≡ false
+      go : (x : Bool) → isCut (m .cut) (m .atoms) (upper w) ≡ x → x ≡ false
       go true f =
           absurd (true≢false
-          (sym (boundary-is (S₁ .cuts) (upper word) (unfold withCut in split-keeps top (m .cut) (m .atoms) (lower word) (S .cuts) lower-top room-lower (upper word) (is-boundary (m .cut) (m .atoms) (upper word) f)))
+          (sym (boundary-is (keeps-lower .cuts) (upper w) (unfold withCut in split-keeps top (m .cut) (m .atoms) (lower w) (S .cuts) (R .lower-top) room-lower (upper w) (is-boundary (m .cut) (m .atoms) (upper w) f)))
           ∙ e))
       go false f = refl
 
-  pub count₁ : withCut m (lower word) .atoms ≡ m .atoms + pick (isCut (m .cut) (m .atoms) (lower word)) 0 1
+  pub count-lower : withCut m (lower w) .atoms ≡ m .atoms + pick (isCut (m .cut) (m .atoms) (lower w)) 0 1
   unfolding withCut
-  count₁ = split-count top (m .cut) (m .atoms) (lower word) (S .cuts) lower-top room-lower
+  count-lower = split-count top (m .cut) (m .atoms) (lower w) (S .cuts) (R .lower-top) room-lower
 
-  pub room-upper : isCut (withCut m (lower word) .cut) (withCut m (lower word) .atoms) (upper word) ≡ false → withCut m (lower word) .atoms < 512
-  room-upper e = omega (arith, rw (missing e) at room-both, count₁)
+  pub room-upper : isCut (withCut m (lower w) .cut) (withCut m (lower w) .atoms) (upper w) ≡ false → withCut m (lower w) .atoms < 512
+  unfolding added
+  room-upper e = omega (arith, rw (missing e) at (R .both), count-lower)
 
-  keeps-insert : Sound (inserted m r (ruleWord l p n t))
-  unfolding inserted
-  keeps-insert =
-      keeps-rule (withCut (withCut m (lower word)) (upper word))
-      (keeps-cut (withCut m (lower word)) S₁ (upper word) upper-top room-upper)
-      r word (C .number)
-      (unfold withCut in ph)
-      (λ e. record {
-        declared = unfold withCut in omega (arith, link-of l p n t hl (F .prefix) (C .long) (F .priority), C .declared);
-        from = unfold withCut in split-keeps top _ _ (upper word) (S₁ .cuts) upper-top room-upper (lower word) (split-has top (m .cut) (m .atoms) (lower word) (S .cuts) lower-top room-lower);
-        to = unfold withCut in split-has top _ _ (upper word) (S₁ .cuts) upper-top room-upper;
-        alone = unfold withCut clashes ruleAt sourceOf in C .alone;
-      })
+  pub keeps-upper : Sound (withCut (withCut m (lower w)) (upper w))
+  keeps-upper = keeps-cut (withCut m (lower w)) keeps-lower (upper w) (R .upper-top) room-upper
+
+  -- both ends are boundaries then, and what was one still is
+  abbrev Is : ℕ → Type 0
+  Is x = let o = withCut (withCut m (lower w)) (upper w) in Boundary (o .cut) (o .atoms) x
+
+  pub ends-keep : (x : ℕ) → Boundary (m .cut) (m .atoms) x → Is x
+  unfolding withCut
+  ends-keep x h = split-keeps top _ _ (upper w) (keeps-lower .cuts) (R .upper-top) room-upper x (split-keeps top (m .cut) (m .atoms) (lower w) (S .cuts) (R .lower-top) room-lower x h)
+
+  pub has-lower : Is (lower w)
+  unfolding withCut
+  has-lower = split-keeps top _ _ (upper w) (keeps-lower .cuts) (R .upper-top) room-upper (lower w) (split-has top (m .cut) (m .atoms) (lower w) (S .cuts) (R .lower-top) room-lower)
+
+  pub has-upper : Is (upper w)
+  unfolding withCut
+  has-upper = split-has top _ _ (upper w) (keeps-lower .cuts) (R .upper-top) room-upper
+
+keeps-insert : (m : State) → Sound m → (r l p n t : ℕ) → Sized l p t → m .phase ≡ 2 → Clear m r l p n t → Sound (inserted m r (ruleWord l p n t))
+unfolding inserted
+keeps-insert m S r l p n t F ph C =
+    let w = ruleWord l p n t in
+    let R = room-for m S F C in
+    keeps-rule (withCut (withCut m (lower w)) (upper w)) (keeps-upper m S w R) r w (C .number)
+    (unfold withCut in ph)
+    (λ e. record {
+      declared = unfold withCut in omega (arith, link-of (rule-fits S F C), C .declared);
+      from = has-lower m S w R;
+      to = has-upper m S w R;
+      alone = unfold withCut clashes ruleAt sourceOf in C .alone;
+    })
 
 -- ---- every record
 

@@ -1,7 +1,7 @@
 -- The owners and the labels entry by entry are those of the state, and what they say of the walk. Assumes nothing.
 use mathlib.Core.Path.{_≡_, refl, sym, ap, ap₂, _∙_, fun-ext}
-use mathlib.Core.Logic.{_⊎_, inl, inr}
-use mathlib.Core.Bool.{Bool, true, false, _&&_}
+use mathlib.Core.Logic.{inl, inr}
+use mathlib.Core.Bool.{Bool, true, false}
 use mathlib.Core.List.{List}
 use mathlib.Core.Option.{none, some}
 use Prim.Native.Nat.{ℕ, _+_, _*_, _/_, _%_, _^_, _≤_, _<_}
@@ -15,9 +15,9 @@ use lib.Seq.{ext-getD}
 use borrow.Author.Tests.{ltb-true, lt-ltb, le-ltb, ne-eqb}
 use Rattle.meaning.specs.Search.{pick}
 use Rattle.meaning.specs.Hall.{zeroes, State, fresh, sourceOf, endOf}
-use Rattle.meaning.specs.Rule.{live, linkOf, rank}
-use Rattle.meaning.specs.Winner.{ruleAt, eligible, winner, linkFor, nextAt}
-use Rattle.meaning.specs.Labels.{names, isOn, labelsOf, on, ownerWord, ownerAt, placeWith, ownersOf}
+use Rattle.meaning.specs.Rule.{live, linkOf}
+use Rattle.meaning.specs.Winner.{ruleAt, winner, linkFor, nextAt}
+use Rattle.meaning.specs.Labels.{names, isOn, labelsOf, ownerWord, ownerAt, placeWith, ownersOf}
 use Rattle.meaning.specs.declared.Record.{Record}
 use Rattle.meaning.specs.declared.Record.the-variants.{Hall as hall, Link as link, Close as close, Insert as insert, Remove as remove, Loop as loop, Fate as fate, Reach as reach, Tally as tally}
 use Rattle.meaning.specs.Records.{phaseOf}
@@ -26,13 +26,12 @@ use Rattle.meaning.specs.Box.{Held}
 use Rattle.meaning.proofs.Tables.{Holds}
 use Rattle.meaning.proofs.Sound.{Sound, fresh-sound}
 use Rattle.meaning.proofs.Kept.{sound}
-use Rattle.meaning.proofs.Idle.{any-off, labels-idle, owners-idle}
+use Rattle.meaning.proofs.Idle.{labels-idle, owners-idle}
 use Rattle.meaning.proofs.Constant.{same-next}
-use Rattle.meaning.proofs.Ranks.{Wins}
 use Rattle.meaning.proofs.Members.{tab-length, tab-at, labels-length, labels-word, labels-on, on-place}
 use Rattle.meaning.proofs.LabelWords.{same-words}
-use Rattle.meaning.proofs.Means.{fit, wins}
-use Rattle.meaning.proofs.Numbered.{has-place, place-with, place-without}
+use Rattle.meaning.proofs.Means.{Winner, fit, wins}
+use Rattle.meaning.proofs.Numbered.{has-place, place-with, place-without, on-without}
 use Rattle.meaning.proofs.Owners.{ownerIn, via, viaLink, nextIn, endIn, Words, Owned, Agrees, Starts, Whole}
 
 -- ---- the owners
@@ -92,9 +91,12 @@ pub link-small : (w : ℕ) → linkOf w < 64
 unfolding linkOf
 link-small w = mod-lt (w / 2 ^ 32) (zero-lt-suc 63)
 
-pub via-word : (l w : ℕ) → l < 64 → w < 256 → via (l * 512 + (w + 1)) ≡ l
+pub via-named : (e : ℕ) → (e ≡ 0 → ⊥) → via e ≡ e / 512 % 64
 unfolding via
-via-word l w hl hw = rw (ne-eqb (l * 512 + (w + 1)) 0 (λ e. omega arith)) (omega arith)
+via-named e n = rw (ne-eqb e 0 n)
+
+pub via-word : (l w : ℕ) → l < 64 → w < 256 → via (l * 512 + (w + 1)) ≡ l
+via-word l w hl hw = via-named (l * 512 + (w + 1)) (λ e. omega arith) ∙ omega arith
 
 -- the word e is that of a live rule at node v
 pub record Won (m : State) (v e : ℕ) : Type 0 where
@@ -116,8 +118,7 @@ module _ (m : State) (S : Sound m) where
       w : ℕ
       w = winner m v a
 
-      go : ((w ≡ 256) × ((i : ℕ) → i < 256 → eligible m v a i ≡ true → ⊥)) ⊎ Wins (eligible m v a) (λ i. rank (ruleAt m i)) 256 w
-          → (t : Bool) → ltb w 256 ≡ t → (pick t (linkOf (ruleAt m w) * 512 + (w + 1)) 0 ≡ 0 → ⊥) → Won m v (pick t (linkOf (ruleAt m w) * 512 + (w + 1)) 0)
+      go : Winner m v a w → (t : Bool) → ltb w 256 ≡ t → (pick t (linkOf (ruleAt m w) * 512 + (w + 1)) 0 ≡ 0 → ⊥) → Won m v (pick t (linkOf (ruleAt m w) * 512 + (w + 1)) 0)
       go x false q n = absurd (n refl)
       go (inl x) true q n = absurd (omega (arith, x .0, ltb-true w 256 q))
       go (inr x) true q n =
@@ -148,6 +149,10 @@ pub via-none : via 0 ≡ 64
 unfolding via
 via-none = refl
 
+-- no owner names no link
+pub unnamed : (l : ℕ) → l < 64 → eqb (via 0) l ≡ false
+unnamed l h = ap (λ (x : ℕ). eqb x l) via-none ∙ ne-eqb 64 l (λ q. omega arith)
+
 -- a winner names a link just where its word as an owner does
 names-via : (m : State) (w l : ℕ) → l < 64 → names (linkFor m w) l ≡ eqb (via (ownerWord m w)) l
 unfolding names linkFor ownerWord
@@ -155,15 +160,9 @@ names-via m w l hl = go (ltb w 256) refl
   where
     go : (t : Bool) → ltb w 256 ≡ t → names (pick t (some (linkOf (ruleAt m w))) none) l ≡ eqb (via (pick t (linkOf (ruleAt m w) * 512 + (w + 1)) 0)) l
     go true e = ap (λ (x : ℕ). eqb x l) (sym (via-word (linkOf (ruleAt m w)) w (link-small (ruleAt m w)) (ltb-true w 256 e)))
-    go false e = sym (ap (λ (x : ℕ). eqb x l) via-none ∙ ne-eqb 64 l (λ q. omega arith))
+    go false e = sym (unnamed l hl)
 
 module _ (m : State) (S : Sound m) where
-  -- a number that no atom has is on no link
-  past-off : (l k : ℕ) → m .atoms ≤ k → isOn m l k ≡ false
-  unfolding isOn
-  past-off l k h = any-off _ (m .atoms) (λ p hp.
-      ap (λ (t : Bool). t && names (nextAt m (getD (m .cut) p 0) (sourceOf m l)) l) (ne-eqb (getD (m .number) p 0) k (λ e. omega (arith, S .numbers .small p hp))))
-
   -- every link's source is a node, and 0 for a link that is not declared
   pub source-small : (l : ℕ) → sourceOf m l < 16
   source-small l = go (decLt l (m .links))
@@ -188,8 +187,8 @@ module _ (m : State) (S : Sound m) where
       go : Dec (k < m .atoms) → isOn m l k ≡ eqb (via (ownerIn owner k v)) l
       go (yes h) = let r = has-place (S .numbers) k h in rw (r .2) at (at (r .0) (r .1))
       go (no h) =
-          past-off l k (omega arith)
-          ∙ sym (ap (λ (x : ℕ). eqb (via x) l) (O .rest k v (omega arith) hk (source-small l)) ∙ ap (λ (x : ℕ). eqb x l) via-none ∙ ne-eqb 64 l (λ q. omega arith))
+          on-without m (S .numbers) l k (omega arith)
+          ∙ sym (ap (λ (x : ℕ). eqb (via x) l) (O .rest k v (omega arith) hk (source-small l)) ∙ unnamed l hl)
 
 labels-words : (m : State) → Words (labelsOf m)
 labels-words m = record { size = labels-length m; word = λ i. go i (decLt i 512) }
@@ -242,8 +241,7 @@ next-past m S a v h = go (wins m S v a)
     w : ℕ
     w = winner m v a
 
-    go : ((w ≡ 256) × ((i : ℕ) → i < 256 → eligible m v a i ≡ true → ⊥)) ⊎ Wins (eligible m v a) (λ i. rank (ruleAt m i)) 256 w
-        → pick (ltb (winner m v a) 256) (some (linkOf (ruleAt m (winner m v a)))) none ≡ none
+    go : Winner m v a w → pick (ltb (winner m v a) 256) (some (linkOf (ruleAt m (winner m v a)))) none ≡ none
     go (inl x) = rw (x .0)
     go (inr x) = absurd (omega (arith, fit m S v a w (x .fits) .here, source-small m S (linkOf (ruleAt m w))))
 

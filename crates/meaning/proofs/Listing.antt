@@ -13,7 +13,7 @@ use Rattle.meaning.specs.Atoms.{placeOf, isCut, insertAt, splitCut, spli
 use Rattle.meaning.specs.Changes.{linkOrNone, changedAt, changedPlaces, entryAt, entriesAt, overwrite}
 use Rattle.meaning.specs.Walk.{arrive, leave, move, after, stands, standsAt, goesRound, onCircle, comesTo, told, fateIn}
 use Rattle.meaning.specs.Search.{anyBelow, lowestBelow, tabulate}
-use Rattle.meaning.specs.Questions.{fateOf, loopsAt, circleAt, someNode, loopFrom, reachFrom, reachesAt, isOut, isLost, isRound, asked, byAddress, leastPlace, countPlace, byPlace}
+use Rattle.meaning.specs.Questions.{fateOf, loopsAt, circleAt, someNode, loopFrom, reachFrom, reachesAt, isOut, isLost, isRound, asked, leastPlace, countPlace, byPlace}
 use Rattle.meaning.specs.Records.{number, isKind, bodyOf, recordOf, readOf, phaseOf}
 use Rattle.meaning.specs.Step.{when, ragged, clashes, added, refusal, withRule, inserted, withNodes, withLink, closed, leaves, listed, nodeOf, changes, only, answers, accepted, taken, stepFor, stepWith, stepBy, stepOf, stepIn}
 use Rattle.meaning.specs.Run.{start, Line, Ran, onward, runFrom, linesFrom, linesOf}

@@ -1,9 +1,9 @@
 -- The words of the labels are their members. Assumes nothing.
-use mathlib.Core.Bool.{Bool, true, false, _&&_, _||_, true≢false, or-true}
+use mathlib.Core.Bool.{Bool, true, false, _&&_, _||_, true≢false, or-true, and-eq-true-iff}
 use mathlib.Core.List.{List}
 use mathlib.Core.Logic.{_⊎_, inl, inr}
 use mathlib.Core.Path.{_≡_, refl, sym, ap, ap₂, _∙_}
-use Prim.Native.Nat.{ℕ, zero, suc, _+_, _-_, _*_, _/_, _%_, _^_, _<_}
+use Prim.Native.Nat.{ℕ, zero, suc, _+_, _*_, _/_, _%_, _^_, _<_}
 use native.Mathlib.Nat.{not-suc-le-zero, pow-suc, pow-succ', div-one, div-div-eq-div-mul, mod-lt, zero-lt-suc, add-zero}
 use native.Mathlib.Decide.{ℕ-discrete}
 use native.Mathlib.Numerals.{add-one}
@@ -94,9 +94,9 @@ pub any-none : (P : ℕ → Bool) → anyBelow 0 P ≡ false
 unfolding anyBelow
 any-none P = refl
 
-pub any-more : (P : ℕ → Bool) (i : ℕ) → anyBelow i P ≡ false → P i ≡ false → anyBelow (i + 1) P ≡ false
+pub any-more : (P : ℕ → Bool) (n : ℕ) → anyBelow (n + 1) P ≡ anyBelow n P || P n
 unfolding anyBelow
-any-more P i e f = rw (add-one, e, f)
+any-more P n = ap (λ (x : ℕ). anyBelow x P) (add-one n)
 
 pub any-some : (P : ℕ → Bool) (n : ℕ) → anyBelow n P ≡ true → (i : ℕ) × (i < n) × (P i ≡ true)
 unfolding anyBelow
@@ -118,12 +118,15 @@ any-one P n i l h = go (P i) refl (anyBelow n P) refl
     go false e true f = let r = any-some P n f in absurd (true≢false (sym (r .2) ∙ ap P (h (r .0) (r .1) (r .2)) ∙ e))
 
 pub and-both : (a b : Bool) → (a && b) ≡ true → (a ≡ true) × (b ≡ true)
-and-both true b e = (refl, e)
-and-both false b e = absurd (true≢false (sym e))
+and-both a b = and-eq-true-iff a b .0
 
 pub or-either : (a b : Bool) → (a || b) ≡ true → (a ≡ true) ⊎ (b ≡ true)
 or-either true b e = inl refl
 or-either false b e = inr e
+
+pub or-neither : (a b : Bool) → (a || b) ≡ false → (a ≡ false) × (b ≡ false)
+or-neither true b e = absurd (true≢false e)
+or-neither false b e = (refl, e)
 
 -- a number is one place's
 pub one-place : {number : List ℕ} {n : ℕ} → Numbers number n → (p q : ℕ) → p < n → q < n → getD number p 0 ≡ getD number q 0 → p ≡ q

@@ -4,7 +4,7 @@ use mathlib.Core.Logic.{_⊎_, inl, inr, ⊎-elim}
 use mathlib.Core.Bool.{Bool, true, false, _||_, _&&_, true≢false}
 use mathlib.Core.List.{List}
 use mathlib.Core.Option.{Option, none, some}
-use Prim.Native.Nat.{ℕ, suc, _+_, _-_, _*_, _/_, _%_, _^_, _≤_, _<_}
+use Prim.Native.Nat.{ℕ, suc, _+_, _*_, _/_, _%_, _^_, _≤_, _<_}
 use native.Mathlib.Decide.{ℕ-discrete}
 use native.Mathlib.Numerals.{add-one}
 use native.Mathlib.Omega.{arith}
@@ -21,7 +21,7 @@ use Rattle.meaning.proofs.Places.{le-or-lt}
 use Rattle.meaning.proofs.Members.{any-true, any-some}
 use Rattle.meaning.proofs.Idle.{any-off}
 use Rattle.meaning.proofs.Means.{stands-at, at-stands}
-use Rattle.meaning.proofs.Bits.{bit-of-zero, or-bits, and-bits, ones-bits, set-bit, shifted}
+use Rattle.meaning.proofs.Bits.{zero-bits, or-bits, and-bits, ones-bits, set-bit, shifted}
 use Rattle.meaning.proofs.Circles.{round-again}
 use Rattle.meaning.proofs.Owners.{ownerIn, viaLink, nextIn}
 
@@ -131,7 +131,7 @@ abbrev pub among : ℕ → ℕ → Bool
 among nodes u = eqb (bit nodes u) 1
 
 pub in-none : (u : ℕ) → among 0 u ≡ true → ⊥
-in-none u e = true≢false (sym e ∙ ap (λ (d : ℕ). eqb d 1) (bit-of-zero u))
+in-none u e = true≢false (sym e ∙ zero-bits u)
 
 -- the set of all 16
 pub in-all : (u : ℕ) → u < 16 → among 65535 u ≡ true
@@ -146,7 +146,7 @@ module _ (a b u : ℕ) where
 
 -- node u alone
 pub in-alone : (u : ℕ) → u < 16 → among (1 * 2 ^ u % 65536) u ≡ true
-in-alone u h = rw (shifted 16 u h) (set-bit 0 u u ∙ ap₂ _||_ (ap (λ (d : ℕ). eqb d 1) (bit-of-zero u)) (eq-eqb u u refl))
+in-alone u h = rw (shifted 16 u h) (set-bit 0 u u ∙ ap₂ _||_ (zero-bits u) (eq-eqb u u refl))
 
 -- node u joins the set
 module _ (nodes u : ℕ) (h : u < 16) where

@@ -1,7 +1,7 @@
 -- What an update does to the winners and the owners. State n has the rules of m and one more, rule r with the word z: an insert goes from
 -- m to n, a remove from n to m. With r, the winner is the better of the winner without it and r. Assumes nothing.
 use mathlib.Core.Path.{_≡_, refl, sym, ap, ap₂, _∙_, subst⁻¹}
-use mathlib.Core.Logic.{_⊎_, inl, inr, ⊎-elim}
+use mathlib.Core.Logic.{inl, inr, ⊎-elim}
 use mathlib.Core.Bool.{Bool, true, false, true≢false}
 use mathlib.Core.List.{List, [], _∷_, _++_, append-assoc, append-nil}
 use mathlib.Core.Option.{none, some}
@@ -29,7 +29,7 @@ use Rattle.meaning.proofs.Means.{Winner, fit, wins, winner-only}
 use Rattle.meaning.proofs.Winners.{covers-is}
 use Rattle.meaning.proofs.Places.{le-or-lt, place-le, place-max, cut-le}
 use Rattle.meaning.proofs.Parted.{boundary-is}
-use Rattle.meaning.proofs.Kept.{Clear, clear, ClearRemove, clear-remove, rule-new, rule-old, keeps}
+use Rattle.meaning.proofs.Kept.{Clear, clear, rule-fits, ClearRemove, clear-remove, rule-new, rule-old, keeps}
 use Rattle.meaning.proofs.Exchange.{winner-same, next-same}
 use Rattle.meaning.proofs.Lists.{places-same}
 use Rattle.meaning.proofs.Ends as ends
@@ -188,9 +188,6 @@ module _ (m : State) (r l p n t : ℕ) (S : Sound m) (F : Sized l p t) (ph : m .
   C : Clear m r l p n t
   C = clear m r l p n t ok
 
-  small : l < 64
-  small = omega (arith, C .declared, S .few)
-
   pub comes : (o : State) → o ≡ withCut (withCut m (lower z)) (upper z) → Sound o → (v : ℕ) → v ≡ nodeOf m (insert r l p n t) → Joined o (withRule o r z) r z v
   unfolding nodeOf sourceOf withRule
   comes o is O v e = record {
@@ -200,8 +197,8 @@ module _ (m : State) (r l p n t : ℕ) (S : Sound m) (F : Sized l p t) (ph : m .
     links = refl;
     free = ap (λ (s : State). live (ruleAt s r)) is ∙ (unfold withCut ruleAt in C .free);
     word = rule-new o r z (O .rules) (C .number);
-    alive = live-of l p n t small (F .prefix) (C .long) (F .priority);
-    node = ap₂ (λ (s : State) (x : ℕ). getD (s .link) x 0 / 1024) is (link-of l p n t small (F .prefix) (C .long) (F .priority)) ∙ (unfold withCut in sym e);
+    alive = live-of (rule-fits S F C);
+    node = ap₂ (λ (s : State) (x : ℕ). getD (s .link) x 0 / 1024) is (link-of (rule-fits S F C)) ∙ (unfold withCut in sym e);
     others = rule-old o r z (O .rules) (C .number);
   }
 

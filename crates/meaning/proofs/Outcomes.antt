@@ -18,13 +18,13 @@ use Rattle.meaning.specs.Hall.{top, State, sourceOf}
 use Rattle.meaning.specs.Rule.{ruleWord, live, linkOf, rank, lower, upper}
 use Rattle.meaning.specs.Winner.{ruleAt}
 use Rattle.meaning.specs.Questions.{loopsAt, circleAt, someNode, loopFrom, reachesAt, reachFrom, asked, byAddress}
-use Rattle.meaning.specs.declared.Read.the-variants.{End as Nothing, Refused as Unread, Got}
+use Rattle.meaning.specs.declared.Read.the-variants.{Refused as Unread, Got}
 use Rattle.meaning.specs.Records.{isKind, bodyOf, recordOf, readOf, phaseOf}
 use Rattle.meaning.specs.Step.{when, ragged, clashes, added, refusal, turnedBy, only, answers, accepted, taken, stepFor, stepWith, stepBy, stepOf}
 use Rattle.meaning.specs.Run.{Came}
 use Rattle.meaning.proofs.Places.{le-or-lt}
-use Rattle.meaning.proofs.Words.{Sized, Fits, fits, link-of, rank-of, lower-of, upper-of, within-top}
-use Rattle.meaning.proofs.Sound.{or-false}
+use Rattle.meaning.proofs.Words.{RuleFits, Fits, fits, link-of, rank-of, lower-of, upper-of, within-top}
+use Rattle.meaning.proofs.Members.{or-neither}
 use Rattle.meaning.proofs.Kept.{sound}
 use Rattle.meaning.proofs.Winners.{covers-is}
 use Rattle.meaning.proofs.Refusals.{ties, tie-found}
@@ -86,21 +86,21 @@ outcome-once (c ∷ cs) o p (inr x) (inr y) = outcome-once cs o p (x .1) (y .1)
 
 module _ (m : State) (c : Came m) where
   -- the prefix and its rule's word
-  module _ (l p n t : ℕ) (hl : l < 64) (F : Sized l p t) (hn : n ≤ 32) where
+  module _ (l p n t : ℕ) (R : RuleFits l p n t) where
     abbrev w : ℕ
     w = ruleWord l p n t
 
     from-is : lower w ≡ p
-    from-is = lower-of l p n t hl (F .prefix) hn (F .priority)
+    from-is = lower-of R
 
     to-is : upper w ≡ p + 2 ^ (32 - n)
-    to-is = upper-of l p n t hl (F .prefix) hn (F .priority)
+    to-is = upper-of R
 
     node-is : sourceOf m (linkOf w) ≡ sourceOf m l
-    node-is = ap (sourceOf m) (link-of l p n t hl (F .prefix) hn (F .priority))
+    node-is = ap (sourceOf m) (link-of R)
 
     rank-is : rank w ≡ t
-    rank-is = rank-of l p n t hl (F .prefix) hn (F .priority)
+    rank-is = rank-of R
 
     tie-test : Test (clashes m w) (Ties m l p n t)
     tie-test = (there, back)
@@ -134,7 +134,7 @@ module _ (m : State) (c : Came m) where
 
     inner-test : p % 2 ^ (32 - n) ≡ 0 → Test (ltb 512 (m .atoms + added m w)) (511 < innerWith m p n)
     inner-test flush =
-        let e = inner-count m (sound m c .cuts) w p n from-is to-is (omega (arith, to-is, within-top p n (F .prefix) hn flush)) in
+        let e = inner-count m (sound m c .cuts) w p n from-is to-is (omega (arith, to-is, within-top p n (R .prefix) (R .long) flush)) in
         (λ h. omega (arith, ltb-true 512 (m .atoms + added m w) h), λ h. lt-ltb 512 (m .atoms + added m w) (omega arith))
 
   -- THE LAW: the checks of a kind, in their order
@@ -152,11 +152,11 @@ module _ (m : State) (c : Came m) where
       first _ _ _ 9 _ (λ x. x, λ x. x) (λ b.
       first _ _ _ 5 _ (le-test (m .links) l) (λ d.
       first _ _ _ 11 _ (or-test _ _ _ _ (lt-test 32 n) (not-test _ _ (eq-test (p % 2 ^ (32 - n)) 0))) (λ e.
-      let x = or-false (ltb 32 n) (not (eqb (p % 2 ^ (32 - n)) 0)) e in
-      let hl : l < 64 = omega (arith, leb-false (m .links) l d, sound m c .few) in
-      let hn : n ≤ 32 = ltb-false 32 n (x .0) in
-      first _ _ _ 12 _ (tie-test l p n t hl F hn) (λ g.
-      first _ _ _ 13 none (inner-test l p n t hl F hn (eqb-true _ 0 (not-false _ (x .1)))) (λ z. none-left))))))
+      let x = or-neither (ltb 32 n) (not (eqb (p % 2 ^ (32 - n)) 0)) e in
+      let R : RuleFits l p n t =
+      record { link = omega (arith, leb-false (m .links) l d, sound m c .few); prefix = F .prefix; long = ltb-false 32 n (x .0); priority = F .priority } in
+      first _ _ _ 12 _ (tie-test l p n t R) (λ g.
+      first _ _ _ 13 none (inner-test l p n t R (eqb-true _ 0 (not-false _ (x .1)))) (λ z. none-left))))))
   kind-outcome (remove r) f = first _ _ _ 8 _ (lt-test 255 r) (λ z. first _ _ _ 10 none (dead-test (live (ruleAt m r))) (λ z. none-left))
   kind-outcome loop f = none-left
   kind-outcome (fate v a) f = first _ _ _ 4 none (le-test (m .nodes) v) (λ z. none-left)

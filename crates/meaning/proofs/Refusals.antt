@@ -16,8 +16,8 @@ use Rattle.meaning.specs.Rule.{ruleWord, live, linkOf, rank, covers}
 use Rattle.meaning.specs.Winner.{ruleAt}
 use Rattle.meaning.specs.Step.{when, ragged, clashes, added, refusal}
 use Rattle.meaning.specs.Run.{Came}
-use Rattle.meaning.proofs.Members.{any-true, any-some, and-both, or-either}
-use Rattle.meaning.proofs.Sound.{when-none, or-false}
+use Rattle.meaning.proofs.Members.{any-true, any-some, and-both, or-either, or-neither}
+use Rattle.meaning.proofs.Sound.{when-none}
 use Rattle.meaning.proofs.Kept.{clear-link, clear, clear-remove, sound}
 use Rattle.meaning.proofs.Winners.{overlap-is}
 
@@ -111,7 +111,7 @@ module _ (m : State) where
   pub no-reason : Came m → (r : Record) (k : ℕ) → refusal m r ≡ none → Reason m r k → ⊥
   unfolding refusal ragged
   no-reason h r k ok (no-node-count n x) =
-      let a = or-false (eqb n 0) (ltb 16 n) (when-none _ _ _ ok .0) in
+      let a = or-neither (eqb n 0) (ltb 16 n) (when-none _ _ _ ok .0) in
       ⊎-elim (λ e. eqb-false n 0 (a .0) e) (λ g. omega (arith, ltb-false 16 n (a .1))) x
   no-reason h r k ok (no-source s c e x) = omega (arith, clear-link m s c e ok .source)
   no-reason h r k ok (no-end-node s c e x y) = omega (arith, clear-link m s c e ok .node x)

@@ -1,37 +1,35 @@
 -- A state that came from the fresh one by records is sound. Assumes nothing.
-use mathlib.Core.Path.{_≡_, refl, sym, ap, ap₂, _∙_, subst, subst⁻¹}
-use mathlib.Core.Logic.{_⊎_, inl, inr, ⊎-elim, _≢_}
-use mathlib.Core.List.{List, [], _∷_}
-use mathlib.Core.Bool.{Bool, true, false, not, _&&_, _||_, true≢false}
+use mathlib.Core.Path.{_≡_, refl, sym, ap, _∙_}
+use mathlib.Core.Logic.{⊎-elim}
+use mathlib.Core.List.{List}
+use mathlib.Core.Bool.{Bool, true, false, not, true≢false, and-comm}
 use mathlib.Core.Option.{Option, none, some}
-use Prim.Native.Nat.{ℕ, zero, suc, _+_, _-_, _*_, _/_, _%_, _^_, _≤_, _<_}
+use Prim.Native.Nat.{ℕ, zero, suc, _≤_, _<_}
 use native.Mathlib.Nat.{not-suc-le-zero}
 use native.Mathlib.Decide.{ℕ-discrete}
 use native.Mathlib.Omega.{arith}
-use lib.Dec.{leb, ltb, eqb}
-use lib.Pow.{pow-pos}
-use lib.ListN.{length, getD, set, replicate, length-set, length-replicate, List·getD-eq-default, getD-replicate}
-use lib.Seq.{getD-set-same, getD-set-other}
-use borrow.Author.Tests.{ltb-false, leb-false, eqb-true, eqb-false, not-true, not-false, eq-eqb, lt-ltb, ltb-true}
+use lib.Dec.{ltb, eqb}
+use lib.ListN.{length, getD, length-set, length-replicate, List·getD-eq-default, getD-replicate}
+use lib.Seq.{getD-set-other}
+use borrow.Author.Tests.{eqb-true, not-false}
 use Rattle.meaning.specs.declared.Answer.{Answer}
-use Rattle.meaning.specs.declared.Answer.the-variants.{End, Refused}
+use Rattle.meaning.specs.declared.Answer.the-variants.{Refused}
 use Rattle.meaning.specs.Search.{pick, anyBelow}
-use Rattle.meaning.specs.Hall.{top, zeroes, State, fresh, sourceOf, endOf, linkWord}
-use Rattle.meaning.specs.Rule.{ruleWord, live, linkOf, rank, lower, upper, overlap}
+use Rattle.meaning.specs.Hall.{top, zeroes, State, fresh, sourceOf, endOf}
+use Rattle.meaning.specs.Rule.{live, linkOf, rank, lower, upper, overlap}
 use Rattle.meaning.specs.Winner.{ruleAt}
-use Rattle.meaning.proofs.Tables.{Cuts, Numbers, Boundary}
-use Rattle.meaning.specs.Atoms.{isCut, splitCut, splitNumber, splitCount, withCut}
+use Rattle.meaning.proofs.Tables.{Cuts, Numbers}
 use Rattle.meaning.specs.declared.Record.{Record}
-use Rattle.meaning.specs.declared.Record.the-variants.{Hall as hall, Link as link, Close as close, Insert as insert, Remove as remove, Loop as loop, Fate as fate, Reach as reach, Tally as tally}
+use Rattle.meaning.specs.declared.Record.the-variants.{Link as link}
 use Rattle.meaning.specs.declared.Read.{Read}
 use Rattle.meaning.specs.Records.{recordOf, readOf, phaseOf}
-use Rattle.meaning.specs.Step.{Done, when, ragged, clashes, added, refusal, withRule, inserted, withNodes, withLink, closed, leaves, only, accepted, taken, stepFor, stepWith, stepBy, stepOf}
+use Rattle.meaning.specs.Step.{when, refusal, leaves, only, accepted, taken, stepFor, stepWith, stepBy, stepOf}
 use Rattle.meaning.specs.Run.{Came, start, more}
 use Rattle.meaning.proofs.Places.{le-or-lt}
-use Rattle.meaning.proofs.Parted.{split-cuts, split-numbers, split-has, split-keeps, split-count, boundary-is}
 use Rattle.meaning.proofs.Constant.{Aligned}
+use Rattle.meaning.proofs.Members.{or-neither}
 use Rattle.meaning.proofs.Begins.{Begins, nothing, unread, whole, begins}
-use Rattle.meaning.proofs.Words.{link-of, rank-of, lower-of, upper-of, live-of, within-top, Sized, Fits, fits}
+use Rattle.meaning.proofs.Words.{Fits, fits}
 
 -- ---- what is kept from record to record
 
@@ -89,27 +87,14 @@ unfolding when
 when-none true k o e = let z : _≡_ {A = ℕ} 0 1 = cc in absurd (omega arith)
 when-none false k o e = (refl, e)
 
-pub or-false : (a b : Bool) → (a || b) ≡ false → (a ≡ false) × (b ≡ false)
-or-false true b e = absurd (true≢false e)
-or-false false b e = (refl, e)
-
-pub and-true : (a b : Bool) → a ≡ true → b ≡ true → (a && b) ≡ true
-and-true a b e f = rw (e, f)
-
 pub any-false : (P : ℕ → Bool) (n : ℕ) → anyBelow n P ≡ false → (i : ℕ) → i < n → P i ≡ false
 unfolding anyBelow
 any-false P zero e i l = absurd (not-suc-le-zero l)
-any-false P (suc n) e i l = let h = or-false (anyBelow n P) (P n) e in go (any-false P n (h .0) i) (h .1) (ℕ-discrete i n)
+any-false P (suc n) e i l = let h = or-neither (anyBelow n P) (P n) e in go (any-false P n (h .0) i) (h .1) (ℕ-discrete i n)
   where
     go : (i < n → P i ≡ false) → P n ≡ false → Dec (i ≡ n) → P i ≡ false
     go f h (yes q) = ap P q ∙ h
     go f h (no q) = f (omega arith)
-
-and-comm : (a b : Bool) → (a && b) ≡ (b && a)
-and-comm true true = refl
-and-comm true false = refl
-and-comm false true = refl
-and-comm false false = refl
 
 pub overlap-comm : (v w : ℕ) → overlap v w ≡ overlap w v
 unfolding overlap

@@ -19,7 +19,6 @@ use Rattle.meaning.proofs.Insert.{insert-below, insert-same, insert-ove
 use Rattle.meaning.proofs.Parted.{within, starts, ends}
 use Rattle.meaning.proofs.Constant.{same-winner}
 use Rattle.meaning.proofs.Kept.{keeps-cut}
-use Rattle.meaning.proofs.Numbering.{cut-old}
 use Rattle.meaning.proofs.Exchange.{winner-same}
 use Rattle.meaning.proofs.Owners.{ownerIn, via, Owned, Agrees, Whole}
 use Rattle.meaning.proofs.Members.{any-one}
@@ -38,10 +37,6 @@ module _ (m : State) (label owner : List ℕ) (W : Whole m label owner) (k : ℕ
           sym (labelled.starts m label owner W .here k v hk hv z) ∙ ap (λ (x : ℕ). getD (m .link) x 0 / 1024) d
 
 module _ (m : State) (b : ℕ) where
-  -- a boundary that there is changes nothing
-  pub with-cut-same : isCut (m .cut) (m .atoms) b ≡ true → withCut m b ≡ m
-  with-cut-same = cut-old m b
-
   -- rules and links are the same, so winners and their words are
   word-same : (v a : ℕ) → ownerWord (withCut m b) (winner (withCut m b) v a) ≡ ownerWord m (winner m v a)
   unfolding ownerWord ruleAt withCut

@@ -24,7 +24,7 @@ use Rattle.meaning.proofs.Places.{place-holds, cut-top}
 use Rattle.meaning.proofs.Covering.{constant-in}
 use Rattle.meaning.proofs.Words.{Sized, Fits, fits}
 use Rattle.meaning.proofs.Sound.{Sound}
-use Rattle.meaning.proofs.Kept.{Clear, clear, keeps-cut, upper-top, room-upper, S₁, keeps, sound}
+use Rattle.meaning.proofs.Kept.{clear, room-for, keeps-upper, keeps, sound}
 use Rattle.meaning.proofs.Exchange.{winner-same, next-same}
 use Rattle.meaning.proofs.Lists.{listed-is}
 use Rattle.meaning.proofs.Demands.{ruleOf, then, Accepts, Twins, Lists, here, later, Changes}
@@ -127,14 +127,11 @@ module _ (m : State) (c : Came m) where
       S : Sound m
       S = sound m c
 
-      C : Clear m r l p n t
-      C = clear m r l p n t ok
-
       cut-up : State
       cut-up = withCut (withCut m (lower w)) (upper w)
 
       up : Sound cut-up
-      up = keeps-cut (withCut m (lower w)) (S₁ m S r l p n t F ph C) (upper w) (upper-top m S r l p n t F ph C) (room-upper m S r l p n t F ph C)
+      up = keeps-upper m S w (room-for m S F (clear m r l p n t ok))
 
       same : (a : ℕ) → winner m (sourceOf m l) a ≡ winner cut-up (sourceOf m l) a
       same a = winner-same m cut-up (unfold withCut in refl) (unfold withCut in refl) (sourceOf m l) a

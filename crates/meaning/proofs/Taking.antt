@@ -1,18 +1,18 @@
 -- Records by kind, a step of two states side by side, and what an accepted insert or remove was. Assumes nothing.
 use mathlib.Core.Path.{_≡_, refl, sym, ap, _∙_}
 use mathlib.Core.Logic.{_↔_}
-use mathlib.Core.Bool.{Bool, true, false, not, true≢false}
+use mathlib.Core.Bool.{Bool, true, false, true≢false}
 use mathlib.Core.Option.{Option, none, some}
 use mathlib.Core.List.{List, [], _∷_}
-use Prim.Native.Nat.{ℕ, _+_, _*_, _≤_}
+use Prim.Native.Nat.{ℕ, _*_, _≤_}
 use native.Mathlib.Omega.{arith}
-use lib.Dec.{ltb, eqb}
-use lib.ListN.{length, getD, set}
+use lib.Dec.{ltb}
+use lib.ListN.{length, set}
 use borrow.Author.Tests.{eqb-true, eq-eqb, le-ltb, not-false}
 use Rattle.meaning.specs.declared.Answer.{Answer}
 use Rattle.meaning.specs.declared.Answer.the-variants.{End, Refused}
 use Rattle.meaning.specs.declared.Read.{Read}
-use Rattle.meaning.specs.declared.Read.the-variants.{End as Nothing, Refused as Unread, Got}
+use Rattle.meaning.specs.declared.Read.the-variants.{End as Nothing}
 use Rattle.meaning.specs.declared.Record.{Record}
 use Rattle.meaning.specs.declared.Record.the-variants.{Hall as hall, Link as link, Close as close, Insert as insert, Remove as remove, Loop as loop, Fate as fate, Reach as reach, Tally as tally}
 use Rattle.meaning.specs.Search.{pick}

@@ -22,9 +22,9 @@ use Rattle.meaning.specs.Records.{recordOf, phaseOf, isQuestion}
 use Rattle.meaning.specs.Step.{refusal, withRule, inserted, withNodes, withLink, closed, leaves, turnedBy, only, answers, accepted, stepOf}
 use Rattle.meaning.specs.Run.{Came, start, more}
 use Rattle.meaning.proofs.Places.{le-or-lt}
-use Rattle.meaning.proofs.Words.{Sized, Fits, link-of, rank-of, lower-of, length-of, free-zero}
+use Rattle.meaning.proofs.Words.{RuleFits, Fits, link-of, rank-of, lower-of, length-of, free-zero}
 use Rattle.meaning.proofs.Sound.{Sound, step-keeps, fresh-sound}
-use Rattle.meaning.proofs.Kept.{clear, sound}
+use Rattle.meaning.proofs.Kept.{clear, rule-fits, sound}
 use Rattle.meaning.proofs.Demands.{Twins}
 use Rattle.meaning.proofs.Taking.{by-question, both-step}
 
@@ -37,9 +37,8 @@ Packed w = ruleWord (linkOf w) (lower w) (lengthOf w) (rank w) ≡ w
 abbrev Packs : State → Type 0
 Packs m = (i : ℕ) → live (ruleAt m i) ≡ true → Packed (ruleAt m i)
 
-packed : (l p n t : ℕ) → l < 64 → Sized l p t → n ≤ 32 → Packed (ruleWord l p n t)
-packed l p n t hl F hn =
-    rw (link-of l p n t hl (F .prefix) hn (F .priority), lower-of l p n t hl (F .prefix) hn (F .priority), length-of l p n t hl (F .prefix) hn (F .priority), rank-of l p n t hl (F .prefix) hn (F .priority))
+packed : {l p n t : ℕ} → RuleFits l p n t → Packed (ruleWord l p n t)
+packed R = rw (link-of R, lower-of R, length-of R, rank-of R)
 
 -- a rule is the one stored, or as it was
 at-set : (rules : List ℕ) (r w i : ℕ) → (getD (set rules r w) i 0 ≡ w) ⊎ (getD (set rules r w) i 0 ≡ getD rules i 0)
@@ -62,8 +61,7 @@ module _ (m : State) (S : Sound m) (P : Packs m) where
   packs-one (link s c e) f ph ok = P
   packs-one close f ph ok = P
   packs-one (insert r l p n t) f ph ok =
-      let C = clear m r l p n t ok in
-      packs-set _ r (ruleWord l p n t) refl (λ e. packed l p n t (omega (arith, C .declared, S .few)) f (C .long))
+      packs-set _ r (ruleWord l p n t) refl (λ e. packed (rule-fits S f (clear m r l p n t ok)))
   packs-one (remove r) f ph ok = packs-set _ r 0 refl (λ e. absurd (true≢false (sym e)))
   packs-one loop f ph ok = P
   packs-one (fate v a) f ph ok = P

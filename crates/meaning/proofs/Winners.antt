@@ -1,7 +1,7 @@
 -- The winner is the one live rule at the node that covers the address and outranks every other; and what an insert and a remove do to the rules.
 -- Assumes nothing.
 use mathlib.Core.Path.{_≡_, refl, sym, ap, ap₂, _∙_}
-use mathlib.Core.Logic.{_↔_, _⊎_, inl, inr, ⊎-elim}
+use mathlib.Core.Logic.{_↔_, inl, inr, ⊎-elim}
 use mathlib.Core.Bool.{true, false, _&&_}
 use mathlib.Core.Option.{none}
 use Prim.Native.Nat.{ℕ, _+_, _-_, _/_, _%_, _^_, _≤_, _<_}
@@ -19,9 +19,9 @@ use Rattle.meaning.specs.Step.{inserted, leaves, refusal}
 use Rattle.meaning.specs.Run.{Came}
 use Rattle.meaning.proofs.Places.{le-or-lt}
 use Rattle.meaning.proofs.Members.{and-both}
-use Rattle.meaning.proofs.Words.{Sized, link-of, rank-of, lower-of, upper-of, length-of, live-of}
+use Rattle.meaning.proofs.Words.{RuleFits, Sized, link-of, rank-of, lower-of, upper-of, length-of, live-of}
 use Rattle.meaning.proofs.Ranks.{Wins}
-use Rattle.meaning.proofs.Kept.{Clear, clear, clear-remove, rule-new, rule-old, sound}
+use Rattle.meaning.proofs.Kept.{Clear, clear, rule-fits, clear-remove, rule-new, rule-old, sound}
 use Rattle.meaning.proofs.Means.{both-cover, Winner, fit, wins, winner-only}
 
 -- ---- the winner
@@ -116,8 +116,8 @@ module _ (m : State) (c : Came m) (r l p n t : ℕ) (F : Sized l p t) (ok : refu
   C : Clear m r l p n t
   C = clear m r l p n t ok
 
-  hl : l < 64
-  hl = omega (arith, C .declared, sound m c .few)
+  R : RuleFits l p n t
+  R = rule-fits (sound m c) F C
 
   parted : State
   parted = withCut (withCut m (lower (ruleWord l p n t))) (upper (ruleWord l p n t))
@@ -132,12 +132,12 @@ module _ (m : State) (c : Came m) (r l p n t : ℕ) (F : Sized l p t) (ok : refu
 
   pub insert-stores : Stored (leaves m (insert r l p n t)) r l p n t
   insert-stores = record {
-    alive = ap live stored-word ∙ live-of l p n t hl (F .prefix) (C .long) (F .priority);
-    link = ap linkOf stored-word ∙ link-of l p n t hl (F .prefix) (C .long) (F .priority);
-    from = ap lower stored-word ∙ lower-of l p n t hl (F .prefix) (C .long) (F .priority);
-    below = ap upper stored-word ∙ upper-of l p n t hl (F .prefix) (C .long) (F .priority);
-    long = ap lengthOf stored-word ∙ length-of l p n t hl (F .prefix) (C .long) (F .priority);
-    priority = ap rank stored-word ∙ rank-of l p n t hl (F .prefix) (C .long) (F .priority);
+    alive = ap live stored-word ∙ live-of R;
+    link = ap linkOf stored-word ∙ link-of R;
+    from = ap lower stored-word ∙ lower-of R;
+    below = ap upper stored-word ∙ upper-of R;
+    long = ap lengthOf stored-word ∙ length-of R;
+    priority = ap rank stored-word ∙ rank-of R;
   }
 
   pub insert-others : (i : ℕ) → (i ≡ r → ⊥) → ruleAt (leaves m (insert r l p n t)) i ≡ ruleAt m i

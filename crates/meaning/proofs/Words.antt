@@ -6,21 +6,27 @@ use mathlib.Core.Bool.{true, false, not}
 use Prim.Native.Nat.{ℕ, zero, suc, _+_, _-_, _*_, _/_, _%_, _^_, _≤_, _<_}
 use native.Mathlib.Nat.{mod-lt, zero-lt-suc, div-add-mod', mul-le-mul-right, lt-of-mul-lt-mul-right, suc-mul, pow-suc}
 use native.Mathlib.Omega.{arith}
-use lib.Dec.{ltb}
-use lib.Pow.{pow-add, pow-mono}
+use lib.Pow.{pow-add}
 use lib.ListN.{getD}
-use borrow.Author.Tests.{eq-eqb, ne-eqb, eqb-true, le-leb, lt-leb, not-false}
-use Rattle.meaning.specs.Rule.{lengthOf, ruleWord, live, linkOf, rank, lower, upper, covers}
-use Rattle.meaning.specs.Hall.{State, sourceOf, endNumber, linkWord}
+use borrow.Author.Tests.{ne-eqb, eqb-true, not-false}
+use Rattle.meaning.specs.Rule.{lengthOf, ruleWord, live, linkOf, rank, lower, upper}
+use Rattle.meaning.specs.Hall.{endNumber, linkWord}
 use Rattle.meaning.specs.declared.End.{End}
 use Rattle.meaning.specs.declared.End.the-variants.{Node, Port, Drop}
-use Rattle.meaning.specs.Winner.{ruleAt, eligible}
 use Rattle.meaning.specs.declared.Record.{Record}
 use Rattle.meaning.specs.declared.Record.the-variants.{Hall as hall, Link as link, Close as close, Insert as insert, Remove as remove, Loop as loop, Fate as fate, Reach as reach, Tally as tally}
 use Rattle.meaning.specs.Records.{number, recordOf}
-use Rattle.meaning.proofs.Bits.{shifted, mask}
 
-module _ (l p n t : ℕ) (hl : l < 64) (hp : p < 2 ^ 32) (hn : n ≤ 32) (ht : t < 2 ^ 16) where
+-- ---- a rule's word: its parts come back from it
+
+-- link, prefix, length and priority have room in a word
+pub record RuleFits (l p n t : ℕ) : Type 0 where
+  pub link : l < 64
+  pub prefix : p < 2 ^ 32
+  pub long : n ≤ 32
+  pub priority : t < 2 ^ 16
+
+module _ {l p n t : ℕ} (R : RuleFits l p n t) where
   pub link-of : linkOf (ruleWord l p n t) ≡ l
   unfolding linkOf ruleWord
   link-of = omega arith
@@ -115,40 +121,6 @@ fits s = go (getD s 0 0)
 pub free-zero : (w : ℕ) → live w ≡ false → w ≡ 0
 unfolding live
 free-zero w e = eqb-true w 0 (not-false _ e)
-
--- ---- for code: `covers` and `eligible` by the tests on the way
-
--- a one shifted by some of the 64 places
-pub shl-at : (k : ℕ) → k < 64 → 1 * 2 ^ k % 2 ^ 64 ≡ 2 ^ k
-shl-at = shifted 64
-
-pub shl : (n : ℕ) → 1 * 2 ^ (n % 64) % 2 ^ 64 ≡ 2 ^ (n % 64)
-shl = mask
-
-pub shl-le : (n : ℕ) → 1 * 2 ^ (n % 64) % 2 ^ 64 ≤ 2 ^ 63
-shl-le n = rw shl (pow-mono {i = n % 64} {j = 63} (omega arith))
-
-module _ (w a : ℕ) where
-  pub covers-low : a < lower w → false ≡ covers w a
-  unfolding covers
-  covers-low h = rw (lt-leb (lower w) a h)
-
-  pub covers-in : lower w ≤ a → ltb a (upper w) ≡ covers w a
-  unfolding covers
-  covers-in h = rw (le-leb (lower w) a h)
-
-module _ (m : State) (v a i w : ℕ) (is : w ≡ ruleAt m i) where
-  pub not-live : w ≡ 0 → false ≡ eligible m v a i
-  unfolding eligible live
-  not-live e = rw (sym is ∙ e)
-
-  pub elsewhere : (w ≡ 0 → ⊥) → (sourceOf m (linkOf w) ≡ v → ⊥) → false ≡ eligible m v a i
-  unfolding eligible live
-  elsewhere n f = rw (← is, ne-eqb w 0 n, ne-eqb (sourceOf m (linkOf w)) v f)
-
-  pub by-cover : (w ≡ 0 → ⊥) → sourceOf m (linkOf w) ≡ v → covers w a ≡ eligible m v a i
-  unfolding eligible live
-  by-cover n f = rw (← is, ne-eqb w 0 n, eq-eqb (sourceOf m (linkOf w)) v f)
 
 -- ---- a link's word: its source and its end come back from it
 

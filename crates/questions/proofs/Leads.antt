@@ -9,11 +9,11 @@ use native.Mathlib.Nat.{mod-eq-of-lt, add-zero}
 use native.Mathlib.Decide.{ℕ-discrete, decLt}
 use native.Mathlib.Omega.{arith}
 use borrow.Author.Count.{below-more}
-use lib.Bits.{bitOr, bitAnd, or-comm, or-add-and, and-le-l, and-le-r}
+use lib.Bits.{bitOr, bitAnd, or-comm}
 use lib.Dec.{eqb}
 use lib.ListN.{length, getD, set}
 use lib.Seq.{getD-set-same, getD-set-other}
-use borrow.Author.Tests.{eq-eqb, ne-eqb, eqb-true, not-false, le-ltb}
+use borrow.Author.Tests.{eq-eqb, eqb-true, not-false, le-ltb}
 use Rattle.meaning.specs.declared.Record.the-variants.{Loop as loop, Reach as reach}
 use Rattle.meaning.specs.declared.Answer.the-variants.{NoLoop, No}
 use Rattle.meaning.specs.Hall.{State}
@@ -21,27 +21,23 @@ use Rattle.meaning.specs.Labels.{bit, on}
 use Rattle.meaning.specs.Questions.{byAddress}
 use Rattle.meaning.specs.Walk.{at, leave, move, after, standsAt, onCircle, comesTo}
 use Rattle.meaning.proofs.Places.{le-or-lt}
-use Rattle.meaning.proofs.Bits.{bit-of-zero, or-bits, not-bits}
+use Rattle.meaning.proofs.Bits.{bit-lt, zero-bits, or-none, or-bits, not-bits}
 use Rattle.meaning.proofs.Members.{any-true, any-some}
 use Rattle.meaning.proofs.Means.{stands-at, at-stands}
 use Rattle.meaning.proofs.Walks.{after-add, after-suc, going-le}
 use Rattle.meaning.proofs.Circles.{round-again}
 use Rattle.meaning.proofs.Owners.{ownerIn, via, nextIn, endIn, Whole}
 use Rattle.meaning.proofs.Moving.{among, in-none, in-all, in-either, in-both, in-alone, in-new, in-old, Off, NotYet, no-owner, to-node, to-end}
-use Rattle.meaning.proofs.Labelled.{starts}
+use Rattle.meaning.proofs.Labelled.{via-named, starts}
 use Rattle.meaning.proofs.ByPlace.{small-atom, ends-of, loop-none, reach-none}
 use Rattle.questions.specs.Moves.{Comes}
-use Rattle.questions.specs.Leads.{Empty, leadsTo, Leads, Joined, Circular, OffLeads, Met, Widened, TowardLeads, Together, OffWalks, TowardWalks}
+use Rattle.questions.specs.Leads.{Empty, leadsTo, Leads, LetLead, Circular, OffLeads, Met, Widened, TowardLeads, Together, OffWalks, TowardWalks}
 
 -- what is true and false at once
 both : {t : Bool} → t ≡ true → t ≡ false → ⊥
 both e f = true≢false (sym e ∙ f)
 
 -- ---- a link that has no atom
-
--- words that are 0 together are 0 each
-or-none : (a b : ℕ) → bitOr a b ≡ 0 → (a ≡ 0) × (b ≡ 0)
-or-none a b e = (omega (arith, or-add-and a b, and-le-r a b), omega (arith, or-add-and a b, and-le-l a b))
 
 -- the words of link l, put together
 abbrev words : List ℕ → ℕ → ℕ
@@ -66,7 +62,7 @@ pub no-atom : (label : List ℕ) (l : ℕ) → not (eqb (words label (8 * l)) 0)
 no-atom label l f = record {
   none-on = λ k h.
       let z : getD label (8 * l + k / 64) 0 ≡ 0 = each-word label (8 * l) (eqb-true _ _ (not-false _ f)) (k / 64) (omega arith) in
-      ap (λ (x : ℕ). eqb (bit x (k % 64)) 1) z ∙ ap (λ (x : ℕ). eqb x 1) (bit-of-zero (k % 64));
+      ap (λ (x : ℕ). eqb (bit x (k % 64)) 1) z ∙ zero-bits (k % 64);
 }
 
 -- ---- leads, link by link
@@ -74,8 +70,8 @@ no-atom label l f = record {
 pub leads-none : (link label lead : List ℕ) → Leads link label 0 lead
 leads-none link label lead = record { by = λ l k h. absurd (omega arith) }
 
-pub joined : (before : List ℕ) (v u : ℕ) → length before ≡ 16 → v < 16 → u < 16 → Joined before (set before v (bitOr (getD before v 0) (1 * 2 ^ u % 65536))) v u
-joined before v u size hv hu = record {
+pub let-lead : (before : List ℕ) (v u : ℕ) → length before ≡ 16 → v < 16 → u < 16 → LetLead before (set before v (bitOr (getD before v 0) (1 * 2 ^ u % 65536))) v u
+let-lead before v u size hv hu = record {
   kept = λ x y e. go x y e (ℕ-discrete x v);
   new = rw (getD-set-same before v (bitOr (getD before v 0) (1 * 2 ^ u % 65536)) 0 (omega arith)) (in-new (getD before v 0) u hu);
 }
@@ -98,8 +94,8 @@ module _ (link label lead : List ℕ) (l : ℕ) (L : Leads link label l lead) wh
       go i k hk e s t hi (yes q) = rw q (f k hk (rw q at e) (rw q at s) (rw q at t))
       go i k hk e s t hi (no n) = kept (getD link i 0 / 1024) (getD link i 0 % 1024) (L .by i k (omega arith) hk e s t)
 
-  pub leads-joined : (after : List ℕ) (v : ℕ) → v ≡ getD link l 0 / 1024 → Joined lead after v (getD link l 0 % 1024) → Leads link label (l + 1) after
-  leads-joined after v q J = more after (J .kept) (λ k hk e s t. sym (ap (λ (x : ℕ). leadsTo after x (getD link l 0 % 1024)) q) ∙ J .new)
+  pub leads-let : (after : List ℕ) (v : ℕ) → v ≡ getD link l 0 / 1024 → LetLead lead after v (getD link l 0 % 1024) → Leads link label (l + 1) after
+  leads-let after v q J = more after (J .kept) (λ k hk e s t. sym (ap (λ (x : ℕ). leadsTo after x (getD link l 0 % 1024)) q) ∙ J .new)
 
   pub leads-empty : Empty label l → Leads link label (l + 1) lead
   leads-empty E = more lead (λ x y e. e) (λ k hk e s t. absurd (both e (E .none-on k hk)))
@@ -115,7 +111,7 @@ module _ (link label lead : List ℕ) (l : ℕ) (L : Leads link label l lead) wh
 pub off-none : (lead : List ℕ) → OffLeads lead 0
 off-none lead = record { none-in = λ C o v e. absurd (in-none v e) }
 
--- a node joins that leads to none but such nodes: nothing new is met
+-- a node joins that leads to none but such nodes
 pub off-more : (lead : List ℕ) (off v : ℕ) → v < 16 → OffLeads lead off → bitOr (getD lead v 0) off ≡ off → OffLeads lead (bitOr off (1 * 2 ^ v % 65536))
 off-more lead off v h O e = record { none-in = λ C o x i. ⊎-elim (O .none-in C o x) (λ (q : v ≡ x). ap C (sym q) ∙ go C o (C v) refl) (in-old off v h x i) }
   where
@@ -130,13 +126,12 @@ pub met-none : (lead : List ℕ) (off : ℕ) → Met lead off 0 0
 met-none lead off = record { led = λ v u h. absurd (omega arith) }
 
 module _ (lead : List ℕ) (off v met : ℕ) (M : Met lead off v met) where
-  pub met-off : v < 16 → Met lead (bitOr off (1 * 2 ^ v % 65536)) (v + 1) met
-  met-off h = record { led = λ x u l f e. go x u l f e (ℕ-discrete x v) (among off x) refl }
+  pub met-off : (bit off v ≡ 0 → ⊥) → Met lead off (v + 1) met
+  met-off n = record { led = λ x u l f e. go x u l f e (ℕ-discrete x v) }
     where
-      go : (x u : ℕ) → x < v + 1 → among (bitOr off (1 * 2 ^ v % 65536)) x ≡ false → leadsTo lead x u ≡ true → Dec (x ≡ v) → (t : Bool) → among off x ≡ t → among met u ≡ true
-      go x u l f e (yes q) t g = absurd (both (rw q (in-new off v h)) f)
-      go x u l f e (no n) true g = absurd (both (in-either off (1 * 2 ^ v % 65536) x g) f)
-      go x u l f e (no n) false g = M .led x u (omega arith) g e
+      go : (x u : ℕ) → x < v + 1 → among off x ≡ false → leadsTo lead x u ≡ true → Dec (x ≡ v) → among met u ≡ true
+      go x u l f e (yes q) = absurd (both (eq-eqb (bit off v) 1 (omega (arith, n, bit-lt off v))) (rw q at f))
+      go x u l f e (no d) = M .led x u (omega arith) f e
 
   pub met-more : Met lead off (v + 1) (bitOr met (getD lead v 0))
   met-more = record { led = λ x u l f e. go x u l f e (ℕ-discrete x v) }
@@ -201,11 +196,6 @@ toward-all lead w = record { start = in-all w; back = λ v u h f i. in-all v h }
 pub together : (m : State) (label owner : List ℕ) → Whole m label owner → Together (m .link) label owner
 together m label owner W = record { agrees = W .agrees; starts = starts m label owner W; ends = ends-of m label owner W }
 
--- the link of an owner that is there
-via-some : (e : ℕ) → (e ≡ 0 → ⊥) → via e ≡ e / 512 % 64
-unfolding via
-via-some e n = rw (ne-eqb e 0 n)
-
 -- no move leads on from a node that is none of 16
 past : (owner : List ℕ) (end : ℕ → ℕ) (k v u : ℕ) → 16 ≤ v → move (nextIn owner k) end (at v) ≡ at u → ⊥
 unfolding move leave nextIn
@@ -221,7 +211,7 @@ module _ (link label lead owner : List ℕ) (L : Leads link label 64 lead) (T : 
       let small : x < 64 = omega arith in
       let near : getD link x 0 % 1024 < 16 = T .ends .inside k v hk h n l in
       let to : getD link x 0 % 1024 ≡ u = cc (to-node owner k v h (endIn link) n l, e) in
-      let way : via (ownerIn owner k v) ≡ x = via-some (ownerIn owner k v) n in
+      let way : via (ownerIn owner k v) ≡ x = via-named (ownerIn owner k v) n in
       let from : getD link x 0 / 1024 ≡ v = sym (ap (λ (y : ℕ). getD link y 0 / 1024) way) ∙ T .starts .here k v hk h n in
       let has : on label x k ≡ true =
       T .agrees .bits x k small hk ∙ ap (λ (y : ℕ). eqb (via (ownerIn owner k y)) x) from ∙ eq-eqb (via (ownerIn owner k v)) x way in

@@ -6,7 +6,6 @@ use mathlib.Core.List.{List}
 use Prim.Native.Nat.{ℕ, zero, suc, _+_, _-_, _*_, _/_, _%_, _^_, _≤_, _<_}
 use native.Mathlib.Decide.{ℕ-discrete}
 use native.Mathlib.Nat.{mod-lt, zero-lt-suc}
-use native.Mathlib.Numerals.{add-one}
 use native.Mathlib.Omega.{arith}
 use lib.Bits.{bitOr, bitAnd, bitXor, and-le-l}
 use lib.Count.{trailingZeros}
@@ -23,12 +22,12 @@ use Rattle.meaning.proofs.Exchange.{eqb-comm}
 use Rattle.meaning.proofs.Owners.{nextIn, endIn, Words, Whole}
 use Rattle.meaning.proofs.Walks.{after-suc, going-down}
 use Rattle.meaning.proofs.Idle.{any-off}
-use Rattle.meaning.proofs.Moving.{among, step-to}
+use Rattle.meaning.proofs.Moving.{among, in-none, step-to}
 use Rattle.meaning.proofs.Carried.{sourceIn, Carries, Reached, Within, leavesBy, goesOn, lostAt, moved-by, moves-on, carries-of, out-is, lost-is}
 use Rattle.meaning.proofs.LabelWords.{trailing-below, trailing-at}
-use Rattle.meaning.proofs.Members.{and-both}
-use Rattle.meaning.proofs.Bits.{bit-of-zero, set-bit, clear-bit, mask-link, or-bits, and-bits, without-bits, all-bits, or-none, xor-none}
-use Rattle.questions.specs.Standing.{Declared, Filled, Joined, TakenAway, Kept, Took, Leaving, SettledBut, Along, Round, Spread, Outward, Stayed, GatheredRow, Gathered, Divided}
+use Rattle.meaning.proofs.Members.{any-more, and-both, or-either, or-neither}
+use Rattle.meaning.proofs.Bits.{zero-bits, set-bit, clear-bit, shifted, or-bits, and-bits, without-bits, ones-bits, or-none, xor-none}
+use Rattle.questions.specs.Standing.{Declared, Filled, JoinedRow, TakenAway, Kept, Took, Leaving, SettledBut, Along, Round, Spread, Outward, Stayed, GatheredRow, Gathered, Divided}
 
 -- a box in order has links that start at nodes
 pub declared-of : {m : State} {label owner : List ℕ} → Whole m label owner → Declared (m .link) (m .links)
@@ -71,7 +70,7 @@ module _ {b a : List ℕ} {r j : ℕ} {f : ℕ → ℕ} (W : Writing b a r j f) 
 
 -- an empty table
 none-on : (u k : ℕ) → u < 18 → k < 512 → on (zeroes 144) u k ≡ false
-none-on u k hu hk = ap (λ (x : ℕ). eqb (bit x (k % 64)) 1) (getD-replicate {A = ℕ} 144 (8 * u + k / 64) 0 0 (omega arith)) ∙ ap (λ (x : ℕ). eqb x 1) (bit-of-zero (k % 64))
+none-on u k hu hk = ap (λ (x : ℕ). eqb (bit x (k % 64)) 1) (getD-replicate {A = ℕ} 144 (8 * u + k / 64) 0 0 (omega arith)) ∙ zero-bits (k % 64)
 
 abbrev pub ones : ℕ → ℕ
 ones i = 18446744073709551615
@@ -83,7 +82,7 @@ pub filled : {b a : List ℕ} {v j : ℕ} → b ≡ zeroes 144 → Writing b a v
 filled {b} {a} {v} {j} z W e = record { size = W .size; member = λ u k hu hk. go u k hu hk (ℕ-discrete u v) }
   where
     go : (u k : ℕ) → u < 18 → k < 512 → Dec (u ≡ v) → on a u k ≡ eqb u v
-    go u k hu hk (yes q) = written W (omega arith) u k hk q ∙ all-bits (k % 64) (mod-lt k (zero-lt-suc 63)) ∙ sym (eq-eqb u v q)
+    go u k hu hk (yes q) = written W (omega arith) u k hk q ∙ ones-bits 64 (k % 64) (mod-lt k (zero-lt-suc 63)) ∙ sym (eq-eqb u v q)
     go u k hu hk (no n) = other-row W (omega arith) u k hk n (omega arith) ∙ ap (λ (x : List ℕ). on x u k) z ∙ none-on u k hu hk ∙ sym (ne-eqb u v n)
 
 -- ---- a row joined by the atoms of another on a link
@@ -113,8 +112,8 @@ joining-more {label} {b} {a} {l} {s} {r} {j} {more} J hr hj y e = record {
     go x z (yes q) = rw q (getD-set-same a p y 0 (omega (arith, J .words .size)) ∙ xor-none y (getD a p 0) (z .1) ∙ J .still (z .0) p)
     go x z (no n) = getD-set-other a p x y 0 n ∙ J .still (z .0) x
 
-pub joined : {label b a : List ℕ} {l s r j more : ℕ} → Joining label l s r b a j more → j ≡ 8 → Joined label l s r b a more
-joined {label} {b} {a} {l} {s} {r} {j} J e = record {
+pub joined-row : {label b a : List ℕ} {l s r j more : ℕ} → Joining label l s r b a j more → j ≡ 8 → JoinedRow label l s r b a more
+joined-row {label} {b} {a} {l} {s} {r} {j} J e = record {
   size = W .size;
   member = λ u k hu hk. go u k hk (ℕ-discrete u r);
   still = λ z u k hu hk. ap (λ (x : ℕ). eqb (bit x (k % 64)) 1) (J .still z (8 * u + k / 64));
@@ -192,11 +191,6 @@ gathered-row {v} {j} {b} {a} G e = record { size = G .words .size; member = λ u
         other-row (G .words) (omega arith) u k hk n (omega arith) ∙ sym (or-false (on b u k))
         ∙ ap (λ (t : Bool). on b u k || (t && on b v k)) (sym (ne-eqb u 17 n))
 
--- one more of the numbers below a bound
-any-more : (P : ℕ → Bool) (n : ℕ) → anyBelow (n + 1) P ≡ anyBelow n P || P n
-unfolding anyBelow
-any-more P n = ap (λ (x : ℕ). anyBelow x P) (add-one n)
-
 pub gathered-none : (b : List ℕ) → length b ≡ 144 → Gathered 0 b b
 unfolding anyBelow
 gathered-none b size = record { size = size; lost = λ k hk. sym (or-false (on b 17 k)); else = λ u k hu hk. refl }
@@ -215,23 +209,11 @@ gathered-more {n} {b} {a} {a′} G h R = record {
 
 -- ---- the links that leave each node
 
-or-both : (a b : Bool) → (a || b) ≡ true → (a ≡ true) ⊎ (b ≡ true)
-or-both true b e = inl refl
-or-both false b e = inr e
-
-not-or : (a b : Bool) → (a || b) ≡ false → (a ≡ false) × (b ≡ false)
-not-or true b e = absurd (true≢false e)
-not-or false b e = (refl, e)
-
--- no link is in the empty set
-none-among : (l : ℕ) → among 0 l ≡ false
-none-among l = ap (λ (d : ℕ). eqb d 1) (bit-of-zero l)
-
 pub leaving-none : (link b : List ℕ) → b ≡ zeroes 16 → Leaving link 0 b
 leaving-none link b z = record {
   size = ap length z ∙ length-replicate {A = ℕ} 16 0;
   all = λ l h. absurd (omega arith);
-  only = λ u l hu hl e. absurd (true≢false (sym e ∙ ap (λ (x : ℕ). among x l) (ap (λ (x : List ℕ). getD x u 0) z ∙ getD-replicate {A = ℕ} 16 u 0 0 hu) ∙ none-among l));
+  only = λ u l hu hl e. absurd (true≢false (sym e ∙ ap (λ (x : ℕ). among x l) (ap (λ (x : List ℕ). getD x u 0) z ∙ getD-replicate {A = ℕ} 16 u 0 0 hu) ∙ zero-bits l));
 }
 
 module _ {link a : List ℕ} {l : ℕ} (L : Leaving link l a) where
@@ -247,7 +229,7 @@ module _ {link a : List ℕ} {l : ℕ} (L : Leaving link l a) where
       before m hm h (no n) = L .all m (omega arith) h
 
   pub leaving-by : {s : ℕ} → l < 64 → s ≡ sourceIn link l → s < 16 → Leaving link (l + 1) (set a s (bitOr (getD a s 0) (1 * 2 ^ l % 2 ^ 64)))
-  leaving-by {s} hl from hs = rw (mask-link l hl) (record {
+  leaving-by {s} hl from hs = rw (shifted 64 l hl) (record {
     size = length-set a s y ∙ L .size;
     all = λ m hm h. all m hm h (ℕ-discrete m l) (ℕ-discrete (sourceIn link m) s);
     only = λ u m hu hm e. only u m hu hm e (ℕ-discrete u s);
@@ -269,7 +251,7 @@ module _ {link a : List ℕ} {l : ℕ} (L : Leaving link l a) where
       only u m hu hm e (no d) = omega (arith, L .only u m hu hm (ap (λ (x : ℕ). among x m) (sym (getD-set-other a s u y 0 d)) ∙ e))
       only u m hu hm e (yes q) =
           ⊎-elim (λ f. omega (arith, L .only s m hs hm f)) (λ f. omega (arith, eqb-true l m f))
-          (or-both (among (getD a s 0) m) (eqb l m) (sym (set-bit (getD a s 0) l m) ∙ ap (λ (x : ℕ). among x m) (sym (ap (λ (x : ℕ). getD (set a s y) x 0) q ∙ here)) ∙ e))
+          (or-either (among (getD a s 0) m) (eqb l m) (sym (set-bit (getD a s 0) l m) ∙ ap (λ (x : ℕ). among x m) (sym (ap (λ (x : ℕ). getD (set a s y) x 0) q ∙ here)) ∙ e))
 
 -- ---- one link carries its atoms on
 
@@ -281,17 +263,17 @@ along-none link label links l b size away = record {
   only = λ u k hu hk e. inl e;
   took = λ k hk h e f. absurd (away h);
   still = λ m k hm hk h e. refl;
-  declared = λ m hm e. absurd (true≢false (sym e ∙ none-among m));
+  declared = λ m hm e. absurd (in-none m e);
 }
 
-module _ {link label : List ℕ} {links l s r : ℕ} {b a : List ℕ} {new : ℕ} (D : Declared link links) (J : Joined label l s r b a new)
+module _ {link label : List ℕ} {links l s r : ℕ} {b a : List ℕ} {new : ℕ} (D : Declared link links) (J : JoinedRow label l s r b a new)
     (from : s ≡ sourceIn link l) (to : r ≡ endIn link l) (hr : r < 16) where
   along : (more : ℕ) → ((m k : ℕ) → m < links → k < 512 → endIn link m < 16 → among more m ≡ false → on a (sourceIn link m) k ≡ on b (sourceIn link m) k)
       → ((m : ℕ) → m < 64 → among more m ≡ true → m < links) → Along link label links l b a more
   along more still declared = record {
     size = J .size;
     kept = λ u k hu hk e. J .member u k hu hk ∙ ap (λ (t : Bool). t || (eqb u r && (on b s k && on label l k))) e;
-    only = λ u k hu hk e. ⊎-elim inl (λ f. inr (new-one u k f)) (or-both _ _ (sym (J .member u k hu hk) ∙ e));
+    only = λ u k hu hk e. ⊎-elim inl (λ f. inr (new-one u k f)) (or-either _ _ (sym (J .member u k hu hk) ∙ e));
     took = λ k hk h e f.
         let m = J .member r k (omega arith) hk in
         let t : (eqb r r && (on b s k && on label l k)) ≡ true = ap₂ _&&_ (eq-eqb r r refl) (ap₂ _&&_ (ap (λ (x : ℕ). on b x k) from ∙ e) f) in
@@ -309,7 +291,7 @@ module _ {link label : List ℕ} {links l s r : ℕ} {b a : List ℕ} {new : ℕ
 
   -- it does, and nothing is new
   pub along-still : new ≡ 0 → Along link label links l b a 0
-  along-still z = along 0 (λ m k hm hk h e. J .still z (sourceIn link m) k (omega (arith, D .source m hm)) hk) (λ m hm e. absurd (true≢false (sym e ∙ none-among m)))
+  along-still z = along 0 (λ m k hm hk h e. J .still z (sourceIn link m) k (omega (arith, D .source m hm)) hk) (λ m hm e. absurd (in-none m e))
 
   -- it does, and the links that leave its end are to carry on what is new
   pub along-new : (leaving : List ℕ) → Leaving link links leaving → Along link label links l b a (getD leaving r 0)
@@ -342,7 +324,7 @@ going-start link label links b from size S = record {
   took = λ l k hl hk h g e f. S .on-all l k hl hk h g e f;
   settled = λ l k hl hk h g n e f. S .on-all l k hl hk h g e f;
   declared = S .declared;
-  declared-next = λ l hl e. absurd (true≢false (sym e ∙ none-among l));
+  declared-next = λ l hl e. absurd (in-none l e);
 }
 
 -- an atom moves along a link as its walk does
@@ -364,7 +346,7 @@ abbrev without : ℕ → ℕ → ℕ
 without left l = bitAnd left (2 ^ 64 - 1 - 1 * 2 ^ l % 2 ^ 64)
 
 among-without : (left l m : ℕ) → l < 64 → m < 64 → among (without left l) m ≡ among left m && not (eqb l m)
-among-without left l m hl hm = rw (mask-link l hl) (clear-bit left l m hl hm)
+among-without left l m hl hm = rw (shifted 64 l hl) (clear-bit left l m hl hm)
 
 -- the lowest link of a set is one of it, without it the set is a smaller number, and a set with no lowest link has none
 pub lowest-among : (left l : ℕ) → l ≡ trailingZeros 64 left → l < 64 → among left l ≡ true
@@ -394,10 +376,10 @@ module _ {link label : List ℕ} {links : ℕ} {b a : List ℕ} {left next : ℕ
     reached = λ owner nodes v C r. reached-along C (G .declared l hl g) A (G .reached owner nodes v C r);
     took = λ m k hm hk h n e f. took m k hm hk h e f (out m hm n);
     settled = λ m k hm hk h n x e f.
-        let z = not-or _ _ (sym (or-bits next more m) ∙ x) in
+        let z = or-neither _ _ (sym (or-bits next more m) ∙ x) in
         settled m k hm hk h (z .0) (sym (A .still m k hm hk h (z .1)) ∙ e) f (out m hm n);
     declared = λ m hm e. G .declared m hm (and-both _ _ (sym (among-without left l m hl hm) ∙ e) .0);
-    declared-next = λ m hm e. ⊎-elim (G .declared-next m hm) (A .declared m hm) (or-both _ _ (sym (or-bits next more m) ∙ e));
+    declared-next = λ m hm e. ⊎-elim (G .declared-next m hm) (A .declared m hm) (or-either _ _ (sym (or-bits next more m) ∙ e));
   }
     where
       out : (m : ℕ) → m < links → among (without left l) m ≡ false → (among left m ≡ false) ⊎ (l ≡ m)
@@ -486,7 +468,7 @@ module _ {link label owner : List ℕ} {links nodes v : ℕ} (C : Carries link l
       go zero k w hk e = I .stood 0 k w (omega arith) hk e
       go (suc j) k w hk e =
           let m = last-move C v j k w hk e in
-          rw (m .2) at (S .on-all (m .0) k (m .1) hk (omega (arith, m .2, m .3)) (none-among (m .0)) (go j k (sourceIn link (m .0)) hk (m .5)) (m .4))
+          rw (m .2) at (S .on-all (m .0) k (m .1) hk (omega (arith, m .2, m .3)) (zero-bits (m .0)) (go j k (sourceIn link (m .0)) hk (m .5)) (m .4))
 
 module _ {link label : List ℕ} {links v : ℕ} {b : List ℕ} {from i : ℕ} (hv : v < 16) where
   pub waves-more : {a : List ℕ} {next : ℕ} → Waves link label links v b from i → Round link label links b a next → Waves link label links v a next (i + 1)
@@ -512,7 +494,7 @@ unfolding anyBelow
 outward-none link label b size = record { size = size; out = λ k hk. sym (or-false (on b 16 k)); else = λ u k hu hk n. refl }
 
 module _ {link label b a : List ℕ} {l : ℕ} (O : Outward link label l b a) where
-  pub outward-by : {a′ : List ℕ} {s more : ℕ} → endIn link l / 256 ≡ 1 → s ≡ sourceIn link l → s < 16 → Joined label l s 16 a a′ more → Outward link label (l + 1) b a′
+  pub outward-by : {a′ : List ℕ} {s more : ℕ} → endIn link l / 256 ≡ 1 → s ≡ sourceIn link l → s < 16 → JoinedRow label l s 16 a a′ more → Outward link label (l + 1) b a′
   unfolding leavesBy
   outward-by {a′} {s} port from hs J = record {
     size = J .size;

@@ -25,7 +25,7 @@ pub record Leads (link label : List ℕ) (n : ℕ) (lead : List ℕ) : Type 0 wh
       → leadsTo lead (getD link l 0 / 1024) (getD link l 0 % 1024) ≡ true
 
 -- node v leads to node u from now on, and what led before leads still
-pub record Joined (before after : List ℕ) (v u : ℕ) : Type 0 where
+pub record LetLead (before after : List ℕ) (v u : ℕ) : Type 0 where
   pub kept : (x y : ℕ) → leadsTo before x y ≡ true → leadsTo after x y ≡ true
   pub new : leadsTo after v u ≡ true
 

@@ -26,7 +26,7 @@ pub record Filled (v : ℕ) (stand : List ℕ) : Type 0 where
   pub member : (u k : ℕ) → u < 18 → k < 512 → on stand u k ≡ eqb u v
 
 -- the atoms of row s on link l have joined row r; nothing is new where `more` is 0
-pub record Joined (label : List ℕ) (l s r : ℕ) (before after : List ℕ) (more : ℕ) : Type 0 where
+pub record JoinedRow (label : List ℕ) (l s r : ℕ) (before after : List ℕ) (more : ℕ) : Type 0 where
   pub size : length after ≡ 144
   pub member : (u k : ℕ) → u < 18 → k < 512 → on after u k ≡ on before u k || (eqb u r && (on before s k && on label l k))
   pub still : more ≡ 0 → (u k : ℕ) → u < 18 → k < 512 → on after u k ≡ on before u k

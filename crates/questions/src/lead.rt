@@ -2,7 +2,7 @@
 ghost use mathlib.Core.Path.{_≡_};
 ghost use mathlib.Core.Bool.{false};
 ghost use Prim.Native.Nat.{_+_, _<_};
-ghost use Rattle.questions.specs.Leads.{Empty, Leads, Joined, OffLeads, Widened, TowardLeads, OffWalks, TowardWalks};
+ghost use Rattle.questions.specs.Leads.{Empty, Leads, LetLead, OffLeads, Met, Widened, TowardLeads, OffWalks, TowardWalks};
 
 // Whether link l has an atom.
 fn carries(label: &[u64; 512], l: usize) -> bool
@@ -24,14 +24,14 @@ fn carries(label: &[u64; 512], l: usize) -> bool
 // Lets node v lead to node u.
 fn join(lead: &mut [u16; 16], v: usize, u: u16)
     requires { ⌜ (v < 16) × (u < 16) ⌝ }
-    ensures { λ r. ⌜ Joined (now (lead .entry)) (now (lead .exit)) v u ⌝ }
+    ensures { λ r. ⌜ LetLead (now (lead .entry)) (now (lead .exit)) v u ⌝ }
 {
     let s: &mut [u16] = lead;
     s[v] |= 1u16 << u;
 }
 
-// Takes in link l: where it has an atom, and goes from a node to a node, the one leads to the other.
-fn take_in(link: &[u16; 64], label: &[u64; 512], l: usize, lead: &mut [u16; 16])
+// Notes link l: where it has an atom, and goes from a node to a node, the one leads to the other.
+fn note_link(link: &[u16; 64], label: &[u64; 512], l: usize, lead: &mut [u16; 16])
     requires { ⌜ (l < 64) × Leads (now link) (now label) l (now lead) ⌝ }
     ensures { λ r. ⌜ Leads (now (link .entry)) (now (label .entry)) (l + 1) (now (lead .exit)) ⌝ }
 {
@@ -54,38 +54,70 @@ fn leads(link: &[u16; 64], label: &[u64; 512], lead: &mut [u16; 16])
 {
     let mut l: usize = 0;
     while l < 64 {
-        take_in(link, label, l, lead);
+        note_link(link, label, l, lead);
         l += 1;
     }
 }
 
-// Of the nodes that lie on no circle of leads, more: those that lead to none but such nodes, and those to which none but such nodes lead.
+// Of the nodes that lie on no circle of leads, more: those that lead to none but such nodes.
 fn off_once(lead: &[u16; 16], off: u16) -> u16
     requires { ⌜ OffLeads (now lead) off ⌝ }
     ensures { λ r. ⌜ OffLeads (now (lead .entry)) r ⌝ }
 {
     let mut more = off;
-    let mut met: u16 = 0;
     let mut v: usize = 0;
     while v < 16 {
         if lead[v] | more == more {
             more |= 1u16 << v;
-        } else {
-            met |= lead[v];
         }
         v += 1;
     }
-    more | !met
+    more
 }
 
-// Nodes that lie on no circle of leads.
-fn off_leads(lead: &[u16; 16]) -> u16
+// Nodes that do not lead into a circle of leads.
+fn off_ahead(lead: &[u16; 16]) -> u16
     ensures { λ r. ⌜ OffLeads (now (lead .entry)) r ⌝ }
 {
     let mut off: u16 = 0;
     let mut i: usize = 0;
     while i < 16 {
         let more = off_once(lead, off);
+        if more == off {
+            return off;
+        }
+        off = more;
+        i += 1;
+    }
+    off
+}
+
+// The nodes to which a node leads that is none of `off`.
+fn led_to(lead: &[u16; 16], off: u16) -> u16
+    ensures { λ r. ⌜ Met (now (lead .entry)) off 16 r ⌝ }
+{
+    let mut met: u16 = 0;
+    let mut v: usize = 0;
+    while v < 16 {
+        if (off >> v) % 2 == 0 {
+            met |= lead[v];
+        }
+        v += 1;
+    }
+    met
+}
+
+// Nodes that lie on no circle of leads: those that do not lead into one, and then those to which none but such nodes lead.
+fn off_leads(lead: &[u16; 16]) -> u16
+    ensures { λ r. ⌜ OffLeads (now (lead .entry)) r ⌝ }
+{
+    let mut off = off_ahead(lead);
+    if off == 65535 {
+        return off;
+    }
+    let mut i: usize = 0;
+    while i < 16 {
+        let more = off | !led_to(lead, off);
         if more == off {
             return off;
         }

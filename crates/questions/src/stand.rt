@@ -8,7 +8,7 @@ ghost use lib.ListN.{length};
 ghost use Rattle.meaning.specs.Hall.{zeroes};
 ghost use Rattle.meaning.specs.Labels.{on};
 ghost use Rattle.meaning.proofs.Owners.{Words};
-ghost use Rattle.questions.specs.Standing.{Declared, Filled, Joined, TakenAway, Leaving, Along, SettledBut, Round, Spread, Outward, Stayed, GatheredRow, Gathered, Divided};
+ghost use Rattle.questions.specs.Standing.{Declared, Filled, JoinedRow, TakenAway, Leaving, Along, SettledBut, Round, Spread, Outward, Stayed, GatheredRow, Gathered, Divided};
 
 // Whether an atom is in a row.
 pub fn in_row(stand: &[u64; 144], row: usize, atom: usize) -> bool
@@ -34,7 +34,7 @@ fn fill_row(stand: &mut [u64; 144], v: usize)
 // The atoms of a source's row that are on link l join a row. Returns 0 where it had them all.
 fn join_row(label: &[u64; 512], l: usize, stand: &mut [u64; 144], source: usize, row: usize) -> u64
     requires { ⌜ (l < 64) × (source < 16) × (row < 18) × (length (now stand) ≡ 144) ⌝ }
-    ensures { λ more. ⌜ Joined (now (label .entry)) l source row (now (stand .entry)) (now (stand .exit)) more ⌝ }
+    ensures { λ more. ⌜ JoinedRow (now (label .entry)) l source row (now (stand .entry)) (now (stand .exit)) more ⌝ }
 {
     let mut more: u64 = 0;
     let mut j: usize = 0;

@@ -7,13 +7,13 @@ use native.Mathlib.Decide.{ℕ-discrete}
 use native.Mathlib.Numerals.{add-one}
 use native.Mathlib.Omega.{arith}
 use lib.Dec.{eqb}
-use lib.ListN.{length, getD, set, length-set}
+use lib.ListN.{length, set, length-set}
 use lib.Seq.{getD-set-same, getD-set-other}
-use borrow.Author.Tests.{ne-eqb}
-use Rattle.meaning.specs.Search.{pick, anyBelow}
+use Rattle.meaning.specs.Search.{anyBelow}
 use Rattle.meaning.specs.Labels.{on}
 use Rattle.meaning.proofs.Exchange.{eqb-comm}
 use Rattle.meaning.proofs.Owners.{ownerIn, via}
+use Rattle.meaning.proofs.Labelled.{via-named, unnamed}
 use Rattle.tables.specs.Bits.{Put}
 use Rattle.tables.specs.Rows.{Given}
 
@@ -69,19 +69,12 @@ module _ {label label′ owner owner′ : List ℕ} {old new v : ℕ} (G : Givin
 
   -- no owner, no link
   pub give-none : e ≡ 0 → Giving label label′ owner (set owner′ (16 * new + v) e) old new (v + 1)
-  unfolding via
   give-none z =
-      step label′ (λ l k hl hk. sym (ap (λ (t : Bool). on label′ l k || (t && eqb k new)) (unnamed l hl) ∙ or-false (on label′ l k)))
-    where
-      unnamed : (l : ℕ) → l < 64 → eqb (pick (eqb e 0) 64 (e / 512 % 64)) l ≡ false
-      unnamed l hl = rw z (ne-eqb 64 l (λ q. omega arith))
+      step label′ (λ l k hl hk. sym (ap (λ (t : Bool). on label′ l k || (t && eqb k new)) (ap (λ (x : ℕ). eqb (via x) l) z ∙ unnamed l hl) ∙ or-false (on label′ l k)))
 
   pub give-put : {label″ : List ℕ} → (e ≡ 0 → ⊥) → Put label′ label″ (e / 512 % 64) new → Giving label label″ owner (set owner′ (16 * new + v) e) old new (v + 1)
-  unfolding via
-  give-put {label″} n P = step label″ (λ l k hl hk. P .member l k hl hk ∙ ap (λ (t : Bool). on label′ l k || (t && eqb k new)) (named l))
-    where
-      named : (l : ℕ) → eqb l (e / 512 % 64) ≡ eqb (pick (eqb e 0) 64 (e / 512 % 64)) l
-      named l = rw (ne-eqb e 0 n) (eqb-comm l (e / 512 % 64))
+  give-put {label″} n P = step label″ (λ l k hl hk.
+      P .member l k hl hk ∙ ap (λ (t : Bool). on label′ l k || (t && eqb k new)) (eqb-comm l (e / 512 % 64) ∙ ap (λ (x : ℕ). eqb x l) (sym (via-named e n))))
 
 pub give-end : {label label′ owner owner′ : List ℕ} {old new n : ℕ} → Giving label label′ owner owner′ old new n → n ≡ 16 → Given label label′ owner owner′ old new
 give-end {label} {label′} {owner} {owner′} {old} {new} {n} G e = record {

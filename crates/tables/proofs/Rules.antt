@@ -1,8 +1,8 @@
 -- Laws of rules by their words: those that stand at a node, those that tie, an insert's last checks, the gathered rules and the best among them.
 -- Assumes nothing.
-use mathlib.Core.Path.{_≡_, refl, sym, ap, ap₂, _∙_, subst}
-use mathlib.Core.Logic.{_⊎_, inl, inr, ⊎-elim}
-use mathlib.Core.Bool.{Bool, true, false, _&&_, not, true≢false}
+use mathlib.Core.Path.{_≡_, refl, sym, ap, _∙_, subst}
+use mathlib.Core.Logic.{inl, inr, ⊎-elim}
+use mathlib.Core.Bool.{Bool, true, false, _&&_, not, true≢false, and-true, and-false, and-assoc}
 use mathlib.Core.List.{List}
 use mathlib.Core.Option.{none, some}
 use Prim.Native.Nat.{ℕ, zero, suc, _+_, _-_, _/_, _%_, _^_, _≤_, _<_}
@@ -11,11 +11,11 @@ use native.Mathlib.Decide.{ℕ-discrete}
 use native.Mathlib.Numerals.{add-one}
 use native.Mathlib.Omega.{arith}
 use lib.Bits.{bitAnd, bitXor, and-le-l, and-le-r, and-mask, and-zero-r, xor-shr, xor-mod, xor-self}
-use lib.Dec.{leb, ltb, eqb}
+use lib.Dec.{ltb, eqb}
 use lib.ListN.{length, length-set, getD, set}
 use lib.Seq.{getD-set-same, getD-set-other}
 use borrow.Author.Count.{below-more}
-use borrow.Author.Tests.{eq-eqb, ne-eqb, lt-ltb, le-ltb, le-leb, lt-leb, leb-true, ltb-true}
+use borrow.Author.Tests.{eq-eqb, ne-eqb, lt-ltb, le-ltb, le-leb, lt-leb}
 use Rattle.meaning.specs.declared.Record.the-variants.{Insert as insert}
 use Rattle.meaning.specs.Search.{pick, anyBelow}
 use Rattle.meaning.specs.Atoms.{isCut}
@@ -24,28 +24,16 @@ use Rattle.meaning.specs.Rule.{ruleWord, live, linkOf, rank, lower, upper, cove
 use Rattle.meaning.specs.Hall.{State, sourceOf}
 use Rattle.meaning.specs.Winner.{better, ruleAt, eligible, winner}
 use Rattle.meaning.proofs.Places.{le-or-lt}
-use Rattle.meaning.proofs.Words.{link-of}
+use Rattle.meaning.proofs.Words.{RuleFits, link-of}
 use Rattle.meaning.proofs.Checks.{rule-clashes, cuts-many, passes}
-use Rattle.meaning.proofs.Ranks.{Wins, keep-out, take-first, take-higher, keep-lower}
+use Rattle.meaning.proofs.Ranks.{keep-out, take-first, take-higher, keep-lower}
 use Rattle.meaning.proofs.Members.{and-both}
-use Rattle.meaning.proofs.Means.{wins}
+use Rattle.meaning.proofs.Means.{both-cover, Winner, wins}
 use Rattle.meaning.proofs.Idle.{any-off}
 use Rattle.meaning.proofs.Sound.{Sound}
 use Rattle.tables.specs.Gathered.{standing, tying, bestIn, maskOf, Marks, IsAmong, Gathering, Gathers}
 
 -- ---- standing, covering, overlapping and tying, by the tests on the way
-
-and-assoc : (a b c : Bool) → (a && (b && c)) ≡ ((a && b) && c)
-and-assoc true b c = refl
-and-assoc false b c = refl
-
-and-off : (a : Bool) → (a && false) ≡ false
-and-off true = refl
-and-off false = refl
-
-and-on : (a : Bool) → (a && true) ≡ a
-and-on true = refl
-and-on false = refl
 
 -- a word whose bits are all b keeps x where b is true, and else nothing of it
 module _ (x : ℕ) (h : x < 2 ^ 64) where
@@ -55,8 +43,8 @@ module _ (x : ℕ) (h : x < 2 ^ 64) where
 
   live-and : (b : Bool) → not (eqb (pick b x 0) 0) ≡ (live x && b)
   unfolding live
-  live-and true = sym (and-on (live x))
-  live-and false = sym (and-off (live x))
+  live-and true = sym (and-true (live x))
+  live-and false = sym (and-false (live x))
 
   pub live-marked : (l : ℕ) (here : List ℕ) → l ≡ linkOf x → (b : Bool) → getD here (linkOf x) 0 ≡ maskOf b
       → not (eqb (bitAnd x (getD here l 0)) 0) ≡ (live x && b)
@@ -84,7 +72,7 @@ module _ (x a l u : ℕ) (isLow : l ≡ lower x) (isHigh : u ≡ upper x) where
 
   pub covers-past : u ≤ a → covers x a ≡ false
   unfolding covers
-  covers-past h = rw (le-ltb a (upper x) (omega arith), and-off)
+  covers-past h = rw (le-ltb a (upper x) (omega arith), and-false)
 
   pub covers-between : l ≤ a → a < u → covers x a ≡ true
   covers-between h g = sym (covers-from h) ∙ lt-ltb a u g
@@ -105,13 +93,13 @@ module _ (x w l u : ℕ) (isLow : l ≡ lower x) (isHigh : u ≡ upper w) where
 module _ (link : List ℕ) (v w x : ℕ) where
   tying-is : tying link v w x ≡ (standing link v x && (eqb (rank x) (rank w) && overlap x w))
   unfolding tying standing
-  tying-is = and-assoc (live x) _ _
+  tying-is = sym (and-assoc (live x) _ _)
 
   pub ties-elsewhere : standing link v x ≡ false → false ≡ tying link v w x
   ties-elsewhere e = rw (tying-is, e)
 
   pub ties-apart : (a b : ℕ) → a ≡ rank x → b ≡ rank w → (a ≡ b → ⊥) → false ≡ tying link v w x
-  ties-apart a b e f n = rw (tying-is, ne-eqb (rank x) (rank w) (λ d. n (e ∙ d ∙ sym f)), and-off)
+  ties-apart a b e f n = rw (tying-is, ne-eqb (rank x) (rank w) (λ d. n (e ∙ d ∙ sym f)), and-false)
 
   pub ties-if : (a b : ℕ) → a ≡ rank x → b ≡ rank w → a ≡ b → standing link v x ≡ true → overlap x w ≡ tying link v w x
   ties-if a b e f d s = rw (tying-is, s, eq-eqb (rank x) (rank w) (sym e ∙ d ∙ f))
@@ -146,30 +134,38 @@ pub ties-nowhere : (link rule : List ℕ) (v w : ℕ) → ((i : ℕ) → i < 256
     → false ≡ anyBelow 256 (λ i. tying link v w (getD rule i 0))
 ties-nowhere link rule v w f = sym (any-off _ 256 (λ i h. sym (ties-apart link v w (getD rule i 0) _ _ refl refl (f i h))))
 
--- ---- the last checks of an insert, by the values that code has: the node v, the word w, and whether a rule ties
+-- ---- the last checks of an insert
 
-module _ (m : State) (r l p n t : ℕ) (few : m .links ≤ 64) (hp : p < 2 ^ 32) (ht : t < 2 ^ 16)
-    (low : r ≤ 255) (free : ruleAt m r ≡ 0) (known : l < m .links) (short : n ≤ 32) (whole : ragged p n ≡ false) (v w : ℕ) (tied : Bool)
-    (isSource : v ≡ getD (m .link) l 0 / 1024) (isWord : w ≡ ruleWord l p n t)
-    (isTied : tied ≡ anyBelow 256 (λ i. tying (m .link) v w (getD (m .rule) i 0))) where
+-- the checks before these have passed, and code has the node v, the word w, and whether a rule ties
+pub record Tried (m : State) (r l p n t v w : ℕ) (tied : Bool) : Type 0 where
+  pub low : r ≤ 255
+  pub free : ruleAt m r ≡ 0
+  pub known : l < m .links
+  pub fits : RuleFits l p n t
+  pub whole : ragged p n ≡ false
+  pub source : v ≡ getD (m .link) l 0 / 1024
+  pub word : w ≡ ruleWord l p n t
+  pub ties : tied ≡ anyBelow 256 (λ i. tying (m .link) v w (getD (m .rule) i 0))
+
+module _ {m : State} {r l p n t v w : ℕ} {tied : Bool} (T : Tried m r l p n t v w tied) where
   clash : tied ≡ clashes m (ruleWord l p n t)
   unfolding clashes tying ruleAt sourceOf
-  clash = isTied ∙ rw (isWord, isSource, link-of l p n t (omega arith) hp short ht)
+  clash = T .ties ∙ rw (T .word, T .source, link-of (T .fits))
 
   pub insert-ties : tied ≡ true → some 12 ≡ refusal m (insert r l p n t)
-  insert-ties e = sym (rule-clashes m r l p n t low free known short whole (sym clash ∙ e))
+  insert-ties e = sym (rule-clashes m r l p n t (T .low) (T .free) (T .known) (T .fits .long) (T .whole) (sym clash ∙ e))
 
   module _ (apart : tied ≡ false) (b c x y : ℕ) (isLow : b ≡ lower w) (isHigh : c ≡ upper w)
       (isX : x ≡ pick (isCut (m .cut) (m .atoms) b) 0 1) (isY : y ≡ pick (isCut (m .cut) (m .atoms) c) 0 1) where
     more-cuts : x + y ≡ added m (ruleWord l p n t)
     unfolding added
-    more-cuts = rw (isX, isY, isLow, isHigh, isWord)
+    more-cuts = rw (isX, isY, isLow, isHigh, T .word)
 
     pub insert-full : 512 < m .atoms + (x + y) → some 13 ≡ refusal m (insert r l p n t)
-    insert-full h = sym (cuts-many m r l p n t low free known short whole (sym clash ∙ apart) (omega (arith, more-cuts)))
+    insert-full h = sym (cuts-many m r l p n t (T .low) (T .free) (T .known) (T .fits .long) (T .whole) (sym clash ∙ apart) (omega (arith, more-cuts)))
 
     pub insert-passes : m .atoms + (x + y) ≤ 512 → none ≡ refusal m (insert r l p n t)
-    insert-passes h = sym (passes m r l p n t low free known short whole (sym clash ∙ apart) (omega (arith, more-cuts)))
+    insert-passes h = sym (passes m r l p n t (T .low) (T .free) (T .known) (T .fits .long) (T .whole) (sym clash ∙ apart) (omega (arith, more-cuts)))
 
 -- ---- gathering
 
@@ -279,12 +275,6 @@ module _ (E : ℕ → Bool) (r : ℕ → ℕ) (among : List ℕ) where
 
 -- ---- the best of the gathered is the winner
 
-meets-at : (x w a : ℕ) → covers x a ≡ true → lower w ≤ a → a < upper w → overlap x w ≡ true
-unfolding covers overlap
-meets-at x w a e from below =
-    let b = and-both (leb (lower x) a) (ltb a (upper x)) e in
-    ap₂ _&&_ (lt-ltb (lower x) (upper w) (omega (arith, leb-true (lower x) a (b .0)))) (lt-ltb (lower w) (upper x) (omega (arith, ltb-true a (upper x) (b .1))))
-
 module _ (m : State) (v w a : ℕ) (among : List ℕ) (count : ℕ) (S : Sound m) (g : Gathers (m .link) (m .rule) v w among count) where
   abbrev covering : ℕ → Bool
   covering k = covers (getD (m .rule) k 0) a
@@ -294,13 +284,13 @@ module _ (m : State) (v w a : ℕ) (among : List ℕ) (count : ℕ) (S : Sound m
 
   eligible-is : (k : ℕ) → eligible m v a k ≡ (standing (m .link) v (getD (m .rule) k 0) && covers (getD (m .rule) k 0) a)
   unfolding eligible standing sourceOf ruleAt
-  eligible-is k = and-assoc (live (getD (m .rule) k 0)) _ _
+  eligible-is k = sym (and-assoc (live (getD (m .rule) k 0)) _ _)
 
   eligible-among : (k : ℕ) → k < 256 → lower w ≤ a → a < upper w → eligible m v a k ≡ true
       → (covering k ≡ true) × ((j : ℕ) × (j < count) × (getD among j 0 ≡ k))
   eligible-among k h from below e =
       let b = and-both _ _ (sym (eligible-is k) ∙ e) in
-      (b .1, g .all k h (b .0) (meets-at (getD (m .rule) k 0) w a (b .1) from below))
+      (b .1, g .all k h (b .0) (both-cover (getD (m .rule) k 0) w a (b .1) (covers-between w a _ _ refl refl from below)))
 
   among-eligible : (j b : ℕ) → j < count → getD among j 0 ≡ b → covering b ≡ true → eligible m v a b ≡ true
   among-eligible j b h e f =
@@ -317,7 +307,7 @@ module _ (m : State) (v w a : ℕ) (among : List ℕ) (count : ℕ) (S : Sound m
       x : ℕ
       x = winner m v a
 
-      go : Outcome covering ranked among count b → ((x ≡ 256) × ((i : ℕ) → i < 256 → eligible m v a i ≡ true → ⊥)) ⊎ Wins (eligible m v a) (λ i. rank (ruleAt m i)) 256 x → b ≡ x
+      go : Outcome covering ranked among count b → Winner m v a x → b ≡ x
       go (nobody e f) (inl o) = e ∙ sym (o .0)
       go (nobody e f) (inr o) =
           let t = eligible-among x (o .within) from below (o .fits) in

@@ -11,7 +11,8 @@ use Rattle.meaning.specs.Atoms.{placeOf, isCut, insertAt, splitCut, splitNumber
 use Rattle.meaning.proofs.Tables.{Cuts}
 use Rattle.meaning.proofs.Parted.{within}
 use Rattle.meaning.proofs.Owners.{Whole}
-use Rattle.meaning.proofs.Splitting.{with-cut-same, split-whole}
+use Rattle.meaning.proofs.Numbering.{cut-old}
+use Rattle.meaning.proofs.Splitting.{split-whole}
 use Rattle.tables.specs.Rows.{Split, Given}
 
 -- the place that was looked up decides
@@ -30,7 +31,7 @@ unfolding splitCut splitNumber splitCount
 split-kept e h = record { cuts = rw e; numbers = rw e; count = rw e; near = omega arith; few = h }
 
 pub kept-whole : (m : State) (b : ℕ) {cut label owner : List ℕ} {n : ℕ} → m .cut ≡ cut → m .atoms ≡ n → isCut cut n b ≡ true → Whole m label owner → Whole (withCut m b) label owner
-kept-whole m b ec en e W = rw (with-cut-same m b (rw (ec, en) e)) W
+kept-whole m b ec en e W = rw (cut-old m b (rw (ec, en) e)) W
 
 -- ---- b lies within place p, and there is room for an atom
 

@@ -14,8 +14,9 @@ use Rattle.meaning.specs.Search.{pick}
 use Rattle.meaning.specs.Labels.{on}
 use Rattle.meaning.specs.Changes.{overwrite}
 use Rattle.meaning.proofs.Tables.{Numbers}
-use Rattle.meaning.proofs.Places.{Order, less, same, more, order}
+use Rattle.meaning.proofs.Members.{one-place}
 use Rattle.meaning.proofs.Owners.{ownerIn, via, Agrees}
+use Rattle.meaning.proofs.Labelled.{via-none}
 use Rattle.tables.specs.Bits.{Moved}
 use Rattle.tables.specs.Sweep.{Swept, entriesFrom, Wrote, ownerBy, Settled, Ready, SweptAll}
 
@@ -40,15 +41,6 @@ pub record Stored (before after : List ℕ) (i x : ℕ) : Type 0 where
 set-stored : (l : List ℕ) (i x : ℕ) → i < length l → Stored l (set l i x) i x
 set-stored l i x h = record { long = length-set l i x; at = getD-set-same l i x 0 h; else = λ j n. getD-set-other l i j x 0 n }
 
--- two places have two numbers
-two : {number : List ℕ} {n : ℕ} → Numbers number n → (p q : ℕ) → p < n → q < n → (q ≡ p → ⊥) → getD number q 0 ≡ getD number p 0 → ⊥
-two m p q hp hq n e = go (order q p)
-  where
-    go : Order q p → ⊥
-    go (less g) = m .apart q p g hp e
-    go (same d) = n d
-    go (more g) = m .apart p q g hq (sym e)
-
 -- ---- the owners
 
 module _ {number owner₀ owner owner′ : List ℕ} {n v f p : ℕ} {h : ℕ → ℕ} (s : Swept number owner₀ owner n v f p h) (numbers : Numbers number n) (node : v < 16) (from : f ≤ p) (within : p < n) where
@@ -62,7 +54,7 @@ module _ {number owner₀ owner owner′ : List ℕ} {n v f p : ℕ} {h : ℕ �
   }
     where
       other : (q : ℕ) → q < n → (q ≡ p → ⊥) → ownerIn owner′ (getD number q 0) v ≡ ownerIn owner (getD number q 0) v
-      other q hq d = w .else (16 * getD number q 0 + v) (λ e. two numbers p q within hq d (omega arith))
+      other q hq d = w .else (16 * getD number q 0 + v) (λ e. d (one-place numbers q p hq within (omega arith)))
 
       done : (q : ℕ) → f ≤ q → q < p + 1 → Dec (q ≡ p) → ownerIn owner′ (getD number q 0) v ≡ h q
       done q a b (yes d) = rw d (w .at)
@@ -74,14 +66,10 @@ module _ {number owner₀ owner owner′ : List ℕ} {n v f p : ℕ} {h : ℕ �
 
 -- ---- the labels
 
-no-link : (e : ℕ) → e ≡ 0 → via e ≡ 64
-unfolding via
-no-link e z = rw z
-
 -- a link that starts elsewhere is not that of an owner at node v
 elsewhere : (link : List ℕ) (v e l : ℕ) → l < 64 → ((e ≡ 0 → ⊥) → getD link (via e) 0 / 1024 ≡ v) → (getD link l 0 / 1024 ≡ v → ⊥) → eqb (via e) l ≡ false
 elsewhere link v e l hl s n =
-    ne-eqb (via e) l (λ d. n (ap (λ (x : ℕ). getD link x 0 / 1024) (sym d) ∙ s (λ z. omega (arith, no-link e z))))
+    ne-eqb (via e) l (λ d. n (ap (λ (x : ℕ). getD link x 0 / 1024) (sym d) ∙ s (λ z. omega (arith, ap via z, via-none))))
 
 moved-bit : (m o : Bool) → pick m true (pick o false o) ≡ m
 moved-bit true o = refl

@@ -12,13 +12,12 @@ use lib.ListN.{length, getD, set}
 use borrow.Author.Tests.{ltb-true, ltb-false, lt-ltb, le-ltb, eq-eqb, ne-eqb}
 use Rattle.meaning.specs.Search.{pick}
 use Rattle.meaning.specs.Hall.{State, sourceOf}
-use Rattle.meaning.specs.Rule.{linkOf, rank, upper, covers}
+use Rattle.meaning.specs.Rule.{linkOf, rank, covers}
 use Rattle.meaning.specs.Winner.{better, ruleAt, eligible, winner, linkFor, nextAt}
 use Rattle.meaning.specs.Labels.{ownerWord}
 use Rattle.meaning.specs.Changes.{linkOrNone, changedAt, entryAt, entriesAt, overwrite}
 use Rattle.meaning.specs.Atoms.{withCut}
 use Rattle.meaning.specs.Step.{withRule, listed}
-use Rattle.meaning.proofs.Words.{covers-in}
 use Rattle.meaning.proofs.Sound.{Sound}
 use Rattle.meaning.proofs.Owners.{ownerIn, via, Owned, Whole, Listed, Numbered}
 use Rattle.meaning.proofs.Ranks.{take-first, take-higher, keep-lower}
@@ -27,7 +26,7 @@ use Rattle.meaning.proofs.OneRule.{Joined, Differ, Spans, differ-in, differ-out
 use Rattle.tables.specs.Gathered.{Gathers, bestIn}
 use Rattle.tables.specs.Rows.{Split}
 use Rattle.tables.specs.Sweep.{Ready, SweptAll, entriesFrom, ownerBy, ownerFor, raised, heirOf}
-use Rattle.tables.proofs.Rules.{best-gathered}
+use Rattle.tables.proofs.Rules.{covers-between, best-gathered}
 
 -- ---- the tables after a sweep
 
@@ -286,7 +285,7 @@ module _ (m : State) (r z v f t : ℕ) {label owner : List ℕ} (W : Whole m lab
         let s = in-span (W .sound .cuts) P q a b in
         let x = getD (m .cut) q 0 in
         ap₂ (raised (m .rule) mine) e (old-is (node-small J) q b)
-        ∙ raised-is m (withRule m r z) r z v J x mine is (sym (covers-in z x (s .0)) ∙ lt-ltb x (upper z) (s .1))) o rules links
+        ∙ raised-is m (withRule m r z) r z v J x mine is (covers-between z x _ _ refl refl (s .0) (s .1))) o rules links
 
     -- THE LAW of a remove
     pub taken-out : {among : List ℕ} {few : ℕ} → Joined (withRule m r 0) m r z v → Gathers (m .link) (set (m .rule) r 0) v z among few

@@ -1,6 +1,5 @@
 -- `hall::step::act` meets its contract: in each arm what was told of the record turns the part's contract into the whole's. Assumes nothing.
-use mathlib.Core.Path.{subst, _∙_}
-use Prim.Native.Nat.{ℕ, _≤_}
+use mathlib.Core.Path.{sym, _∙_}
 use borrow.Author.Needs.{needs}
 use Rattle.meaning.proofs.Boxes.{reply-leaves}
 use Rattle.hall.proofs.Others.{question, told-leaves}
@@ -47,7 +46,7 @@ returns-3 c =
     let m = a .before .before .before .before .before .before in
     let s = m .before .before in
     rw (c .only .ensures, a .reply .ensures)
-    (reply-leaves _ _ _ _ (s .pre .0) (s .pre .1 .1) _ _ (question _ (m .match .keys3) (subst (λ (x : ℕ). 2 ≤ x) (s .pre .1 .0) (s .pre .1 .2))))
+    (reply-leaves _ _ _ _ (s .pre .0) (s .pre .1 .1) _ _ (question _ (m .match .keys3) (sym (s .pre .1 .0) ∙ s .pre .1 .2)))
 
 pub act-spec : {M : Type 1} → statement M
 act-spec =

@@ -1,6 +1,5 @@
 -- `hall::step::set_up` meets its contract: in each arm what was told of the record turns the part's contract into the whole's. Assumes nothing.
-use mathlib.Core.Path.{sym, ap, subst, _∙_}
-use Prim.Native.Nat.{ℕ, _<_}
+use mathlib.Core.Path.{sym, ap, _∙_}
 use borrow.Author.Needs.{needs}
 use Rattle.meaning.specs.Records.{phaseOf}
 use Rattle.meaning.proofs.Boxes.{takes}
@@ -48,7 +47,7 @@ returns-3 c rule cut places label owner list h p q =
     c .take-close .ensures _ rule cut places label owner list h (p ∙ ap phaseOf (t .enum-told .given .1)) ∙ ap (takes _ _ _) (sym (t .enum-told .given .1))
 
 returns-4 : tie.Need-returns-4
-returns-4 c rule cut places label owner list h p q = absurd (not-before _ (c .before .match .keys4) (subst (λ (x : ℕ). x < 2) p q))
+returns-4 c rule cut places label owner list h p q = absurd (not-before _ (c .before .match .keys4) (λ e. q (p ∙ e)))
 
 pub set-up-spec : {M : Type 1} → statement M
 set-up-spec =

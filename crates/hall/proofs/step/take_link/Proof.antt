@@ -9,15 +9,16 @@ use Rattle.meaning.specs.Hall.{linkWord}
 use Rattle.meaning.specs.Records.{phaseOf}
 use Rattle.meaning.specs.Step.{checked, withLink, leaves, changes, answers}
 use Rattle.meaning.specs.Box.{stateOf}
-use Rattle.meaning.proofs.Boxes.{LinkPasses, link-passes, turned-takes, opened-takes}
+use Rattle.meaning.proofs.Kept.{ClearLink, clear-link}
+use Rattle.meaning.proofs.Boxes.{turned-takes, opened-takes}
 use Rattle.hall.proofs.step.take_link.Statement.{statement}
 use Rattle.hall.proofs.step.take_link.Tie as tie
 
 -- once the checks have passed
 passes : (c : tie.After-enum-told)
-    → let x = c .before .before .before .args in LinkPasses (stateOf (x .h) [] [] [] []) (x .source) (x .code) (x .number)
+    → let x = c .before .before .before .args in ClearLink (stateOf (x .h) [] [] [] []) (x .source) (x .code) (x .number)
 unfolding checked
-passes c = link-passes _ _ _ _ (sym (c .before .before .check-link .ensures [] [] [] []) ∙ ap checked (c .enum-told .given .1))
+passes c = clear-link _ _ _ _ (sym (c .before .before .check-link .ensures [] [] [] []) ∙ ap checked (c .enum-told .given .1))
 
 check-link-requires : tie.Need-check-link-requires
 check-link-requires c κs = search needs

@@ -1,6 +1,6 @@
 -- `lead::join` meets its contract: a bit is set. Assumes nothing.
 use borrow.Author.Needs.{needs}
-use Rattle.questions.proofs.Leads.{joined}
+use Rattle.questions.proofs.Leads.{let-lead}
 use Rattle.questions.proofs.lead.join.Statement.{statement}
 use Rattle.questions.proofs.lead.join.Tie as tie
 
@@ -17,7 +17,7 @@ slice-write-s : tie.Need-slice-write-s
 slice-write-s c = search needs
 
 returns : tie.Need-returns
-returns c = joined _ _ _ (search needs) (search needs) (search needs)
+returns c = let-lead _ _ _ (search needs) (search needs) (search needs)
 
 pub join-spec : {M : Type 1} → statement M
 join-spec = tie.close (tie.spec shl-s mul-s slice-read-s slice-write-s returns)

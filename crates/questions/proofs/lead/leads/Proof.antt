@@ -17,8 +17,8 @@ abbrev μ-loop : tie.MeasureT-loop
 loop-holds : tie.Need-loop-holds Inv-loop μ-loop
 loop-holds c = (omega arith, leads-none _ _ _)
 
-take-in-requires : tie.Need-take-in-requires Inv-loop μ-loop
-take-in-requires c κs = search needs
+note-link-requires : tie.Need-note-link-requires Inv-loop μ-loop
+note-link-requires c κs = search needs
 
 add-l : tie.Need-add-l Inv-loop μ-loop
 add-l c = search needs
@@ -38,4 +38,4 @@ returns c =
 pub leads-spec : {M : Type 1} → statement M
 leads-spec =
     tie.close
-    (tie.spec Inv-loop μ-loop loop-holds take-in-requires add-l loop-less loop-again returns)
+    (tie.spec Inv-loop μ-loop loop-holds note-link-requires add-l loop-less loop-again returns)

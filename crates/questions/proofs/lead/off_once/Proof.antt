@@ -1,23 +1,21 @@
--- `lead::off_once` meets its contract. The loop's invariant: no node of `more` lies on a circle of leads, and what the others below v lead to
--- is met. Assumes nothing.
+-- `lead::off_once` meets its contract. The loop's invariant: no node of `more` lies on a circle of leads. Assumes nothing.
 use borrow.Author.Needs.{needs}
-use mathlib.Core.Path.{_≡_}
 use mathlib.Core.Logic.{⊎-elim}
 use Prim.Native.Nat.{_-_, _≤_}
 use native.Mathlib.Omega.{arith}
-use Rattle.questions.specs.Leads.{OffLeads, Met}
-use Rattle.questions.proofs.Leads.{off-more, met-none, met-off, met-more, off-unmet}
+use Rattle.questions.specs.Leads.{OffLeads}
+use Rattle.questions.proofs.Leads.{off-more}
 use Rattle.questions.proofs.lead.off_once.Statement.{statement}
 use Rattle.questions.proofs.lead.off_once.Tie as tie
 
 abbrev Inv-loop : tie.InvT-loop
-Inv-loop lead off more₀ met₀ v₀ more met v = (v ≤ 16) × OffLeads lead more × Met lead more v met
+Inv-loop lead off more₀ v₀ more v = (v ≤ 16) × OffLeads lead more
 
 abbrev μ-loop : tie.MeasureT-loop
-μ-loop lead off more₀ met₀ v₀ more met v = 16 - v
+μ-loop lead off more₀ v₀ more v = 16 - v
 
 loop-holds : tie.Need-loop-holds Inv-loop μ-loop
-loop-holds c = (omega arith, c .pre, met-none _ _)
+loop-holds c = search needs
 
 mul-if1 : tie.Need-mul-if1 Inv-loop μ-loop
 mul-if1 c = search needs
@@ -31,12 +29,6 @@ cast-more c = search needs
 shl-more : tie.Need-shl-more Inv-loop μ-loop
 shl-more c = search needs
 
-mul-met : tie.Need-mul-met Inv-loop μ-loop
-mul-met c = search needs
-
-element-copy-out-met : tie.Need-element-copy-out-met Inv-loop μ-loop
-element-copy-out-met c = search needs
-
 add-v : tie.Need-add-v Inv-loop μ-loop
 add-v c = search needs
 
@@ -47,17 +39,10 @@ loop-again : tie.Need-loop-again Inv-loop μ-loop
 loop-again c =
     let l = c .before .before .before in
     let L = l .loop .inv .1 in
-    let M = l .loop .inv .2 in (
-      omega arith,
-      ⊎-elim (λ w. rw (w .1) (off-more _ _ _ (omega arith) L (w .0 .taken))) (λ w. rw (w .2) L) (c .if1 .came),
-      ⊎-elim (λ w. rw (w .1, w .2) (met-off _ _ _ _ M (omega arith))) (λ w. rw (w .2, w .3) (met-more _ _ _ _ M)) (c .if1 .came),
-    )
+    (omega arith, ⊎-elim (λ w. rw (w .1) (off-more _ _ _ (omega arith) L (w .0 .taken))) (λ w. rw (w .1) L) (c .if1 .came))
 
 returns : tie.Need-returns Inv-loop μ-loop
-returns c =
-    let l = c .before in
-    let e : l .loop .v ≡ 16 = omega arith in
-    off-unmet _ _ _ (l .loop .inv .1) (rw e at (l .loop .inv .2))
+returns c = search needs
 
 pub off-once-spec : {M : Type 1} → statement M
 off-once-spec =
@@ -70,8 +55,6 @@ off-once-spec =
     element-copy-out-if1
     cast-more
     shl-more
-    mul-met
-    element-copy-out-met
     add-v
     loop-less
     loop-again

@@ -2,7 +2,7 @@
 use Prim.Native.Nat.{_-_, _≤_}
 use mathlib.Core.Path.{refl}
 use native.Mathlib.Omega.{arith}
-use Rattle.questions.proofs.Standing.{Joining, joining-none, joining-more, joined}
+use Rattle.questions.proofs.Standing.{Joining, joining-none, joining-more, joined-row}
 use borrow.Author.Needs.{needs}
 use Rattle.questions.proofs.stand.join_row.Statement.{statement}
 use Rattle.questions.proofs.stand.join_row.Tie as tie
@@ -76,7 +76,7 @@ loop-again c =
     (omega arith, joining-more (l .loop .inv .1) (l .before .pre .2) (omega arith) _ refl)
 
 returns : tie.Need-returns Inv-loop μ-loop
-returns c = joined (c .before .loop .inv .1) (omega arith)
+returns c = joined-row (c .before .loop .inv .1) (omega arith)
 
 pub join-row-spec : {M : Type 1} → statement M
 join-row-spec =

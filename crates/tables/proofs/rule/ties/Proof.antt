@@ -1,6 +1,6 @@
 -- `rule::ties` meets its contract. The loop's invariant: none of the rules below i ties. Assumes nothing.
-use mathlib.Core.Bool.{false}
-use mathlib.Core.Path.{_≡_, sym, _∙_}
+use mathlib.Core.Bool.{false, _||_}
+use mathlib.Core.Path.{_≡_, sym, ap₂, _∙_}
 use Prim.Native.Nat.{_-_, _≤_}
 use native.Mathlib.Omega.{arith}
 use lib.ListN.{getD}
@@ -49,7 +49,7 @@ loop-less : tie.Need-loop-less Inv-loop μ-loop
 loop-less c = search needs
 
 loop-again : tie.Need-loop-again Inv-loop μ-loop
-loop-again c = (search needs, any-more _ _ (c .before .before .before .before .loop .inv .1) (sym (c .before .ties-with .ensures) ∙ c .if2 .left))
+loop-again c = (search needs, any-more _ _ ∙ ap₂ _||_ (c .before .before .before .before .loop .inv .1) (sym (c .before .ties-with .ensures) ∙ c .if2 .left))
 
 returns-3 : tie.Need-returns-3 Inv-loop μ-loop
 returns-3 c =

@@ -3,7 +3,7 @@ use Prim.Native.Nat.{_/_}
 use native.Mathlib.Omega.{arith}
 use borrow.Author.Needs.{needs}
 use Rattle.meaning.specs.Rule.{upper}
-use Rattle.meaning.proofs.Words.{shl, shl-le}
+use Rattle.meaning.proofs.Bits.{mask, mask-le}
 use Rattle.tables.proofs.rule.upper_of.Statement.{statement}
 use Rattle.tables.proofs.rule.upper_of.Tie as tie
 
@@ -11,11 +11,11 @@ shl-result : tie.Need-shl-result
 shl-result c = search needs
 
 add-result : tie.Need-add-result
-add-result c = omega (arith, shl-le (c .args .w / 274877906944))
+add-result c = omega (arith, mask-le (c .args .w / 274877906944))
 
 returns : tie.Need-returns
 unfolding upper
-returns c = (rw shl, omega (arith, shl-le (c .args .w / 274877906944)))
+returns c = (rw mask, omega (arith, mask-le (c .args .w / 274877906944)))
 
 pub upper-of-spec : {M : Type 1} → statement M
 upper-of-spec = tie.close (tie.spec shl-result add-result returns)

@@ -1,11 +1,15 @@
 -- `update::check_insert` meets its contract. Assumes nothing.
+use mathlib.Core.List.{List}
 use mathlib.Core.Path.{sym, _∙_}
+use Prim.Native.Nat.{ℕ}
 use native.Mathlib.Omega.{arith}
+use denote.Ref.{now}
 use borrow.Author.Needs.{needs}
+use Rattle.meaning.specs.Box.{stateOf}
 use Rattle.meaning.specs.Step.{checked}
 use Rattle.meaning.specs.Winner.{ruleAt}
 use Rattle.meaning.proofs.Checks.{number-high, number-live, link-unknown, length-high, prefix-ragged}
-use Rattle.tables.proofs.Rules.{insert-ties, insert-full, insert-passes}
+use Rattle.tables.proofs.Rules.{Tried, insert-ties, insert-full, insert-passes}
 use Rattle.tables.proofs.update.check_insert.Statement.{statement}
 use Rattle.tables.proofs.update.check_insert.Tie as tie
 
@@ -65,10 +69,16 @@ source-of-requires c κs = search needs
 ties-requires : tie.Need-ties-requires
 ties-requires c κs = search needs
 
-returns-6 : tie.Need-returns-6
-unfolding checked ruleAt
-returns-6 c =
-    let s = c .before in
+abbrev start : tie.After-ties → tie.Start
+start s = s .before .before .before .before .before .before .before .before .before .before .before .before .before .before .before
+
+-- what is known of the state, with any numbers, once code has seen whether a rule ties
+tried : (s : tie.After-ties) (number : List ℕ)
+    → let x = start s .args in
+    Tried (stateOf (x .h) (now (x .link)) (now (x .rule)) (now (x .cut)) number) (x .r) (x .x .link) (x .x .prefix) (x .x .length) (x .x .priority)
+    (s .before .source-of .result) (s .before .before .before .before .pack .result) (s .ties .result)
+unfolding ruleAt
+tried s number =
     let k = s .before .before .before in
     let g = k .before .before .before in
     let n = g .before in
@@ -76,11 +86,20 @@ returns-6 c =
     let f = l .before .before .before in
     let d = f .before .before in
     let sized = k .struct-known4 .given in
-    λ number.
-    insert-ties _ _ _ _ _ _ (d .before .pre .1) (omega (arith, sized)) (omega (arith, sized))
-    (d .if1 .left) (f .if2 .left) (l .if3 .left) (n .if4 .left) (sym (g .is-ragged .ensures) ∙ k .before .before .if5 .left)
-    _ _ _ (s .before .source-of .ensures .0) (k .before .pack .ensures) (s .ties .ensures)
-    (c .if6 .taken)
+    record {
+      low = d .if1 .left;
+      free = f .if2 .left;
+      known = l .if3 .left;
+      fits = record { link = omega (arith, l .if3 .left, d .before .pre .1); prefix = omega (arith, sized); long = n .if4 .left; priority = omega (arith, sized) };
+      whole = sym (g .is-ragged .ensures) ∙ k .before .before .if5 .left;
+      source = s .before .source-of .ensures .0;
+      word = k .before .pack .ensures;
+      ties = s .ties .ensures;
+    }
+
+returns-6 : tie.Need-returns-6
+unfolding checked
+returns-6 c = λ number. insert-ties (tried (c .before) number) (c .if6 .taken)
 
 cast-n : tie.Need-cast-n
 cast-n c = search needs
@@ -104,44 +123,22 @@ add-if7 : tie.Need-add-if7
 add-if7 c = search needs
 
 returns-7 : tie.Need-returns-7
-unfolding checked ruleAt
+unfolding checked
 returns-7 c =
     let q = c .before in
     let b = q .before .before in
     let e = b .before .before .before in
-    let s = e .before in
-    let k = s .before .before .before in
-    let g = k .before .before .before in
-    let n = g .before in
-    let l = n .before .before in
-    let f = l .before .before .before in
-    let d = f .before .before in
-    let sized = k .struct-known4 .given in
     λ number.
-    insert-full _ _ _ _ _ _ (d .before .pre .1) (omega (arith, sized)) (omega (arith, sized))
-    (d .if1 .left) (f .if2 .left) (l .if3 .left) (n .if4 .left) (sym (g .is-ragged .ensures) ∙ k .before .before .if5 .left)
-    _ _ _ (s .before .source-of .ensures .0) (k .before .pack .ensures) (s .ties .ensures)
-    (e .if6 .left) _ _ _ _ (b .before .lower-of .ensures .0) (q .before .upper-of .ensures .0) (b .adds .ensures .0) (q .adds2 .ensures .0) (c .if7 .taken)
+    insert-full (tried (e .before) number) (e .if6 .left) _ _ _ _ (b .before .lower-of .ensures .0) (q .before .upper-of .ensures .0) (b .adds .ensures .0) (q .adds2 .ensures .0) (c .if7 .taken)
 
 returns-8 : tie.Need-returns-8
-unfolding checked ruleAt
+unfolding checked
 returns-8 c =
     let q = c .before in
     let b = q .before .before in
     let e = b .before .before .before in
-    let s = e .before in
-    let k = s .before .before .before in
-    let g = k .before .before .before in
-    let n = g .before in
-    let l = n .before .before in
-    let f = l .before .before .before in
-    let d = f .before .before in
-    let sized = k .struct-known4 .given in
     λ number.
-    insert-passes _ _ _ _ _ _ (d .before .pre .1) (omega (arith, sized)) (omega (arith, sized))
-    (d .if1 .left) (f .if2 .left) (l .if3 .left) (n .if4 .left) (sym (g .is-ragged .ensures) ∙ k .before .before .if5 .left)
-    _ _ _ (s .before .source-of .ensures .0) (k .before .pack .ensures) (s .ties .ensures)
-    (e .if6 .left) _ _ _ _ (b .before .lower-of .ensures .0) (q .before .upper-of .ensures .0) (b .adds .ensures .0) (q .adds2 .ensures .0) (c .if7 .left)
+    insert-passes (tried (e .before) number) (e .if6 .left) _ _ _ _ (b .before .lower-of .ensures .0) (q .before .upper-of .ensures .0) (b .adds .ensures .0) (q .adds2 .ensures .0) (c .if7 .left)
 
 pub check-insert-spec : {M : Type 1} → statement M
 check-insert-spec =

@@ -12,8 +12,8 @@ use Rattle.meaning.specs.Box.{stateOf}
 use Rattle.meaning.specs.declared.Record.{Record}
 use Rattle.meaning.specs.declared.Record.the-variants.{Insert as insertion}
 use Rattle.meaning.specs.Step.{withRule, inserted, leaves, nodeOf}
-use Rattle.meaning.proofs.Words.{Sized, link-of}
-use Rattle.meaning.proofs.Kept.{Clear, clear, lower-top, upper-top, room-lower, room-upper}
+use Rattle.meaning.proofs.Words.{Sized, RuleFits, link-of}
+use Rattle.meaning.proofs.Kept.{Clear, clear, rule-fits, Room, room-for, room-lower, room-upper}
 use Rattle.meaning.proofs.Owners.{Whole}
 use Rattle.meaning.proofs.OneRule.{Joined, Spans, comes, rule-spans, node-small}
 use Rattle.tables.proofs.Updated.{cutAs, split-is, split-whole, numbered, ready, listed-as, taken-in}
@@ -40,14 +40,17 @@ module _ (s : tie.Start) where
   passed : Clear state (s .args .r) (s .args .x .link) (s .args .x .prefix) (s .args .x .length) (s .args .x .priority)
   passed = clear state (s .args .r) (s .args .x .link) (s .args .x .prefix) (s .args .x .length) (s .args .x .priority) (s .pre .1 .1)
 
-  link-small : s .args .x .link < 64
-  link-small = omega (arith, passed .declared, s .pre .0 .sound .few)
+  room : Room state word
+  room = room-for state (s .pre .0 .sound) sized passed
+
+  fits : RuleFits (s .args .x .link) (s .args .x .prefix) (s .args .x .length) (s .args .x .priority)
+  fits = rule-fits (s .pre .0 .sound) sized passed
 
   mine-fits : s .args .x .link * 512 + s .args .r + 1 < 2 ^ 16
-  mine-fits = omega (arith, passed .number, link-small)
+  mine-fits = omega (arith, passed .number, fits .link)
 
   mine-is : s .args .x .link * 512 + s .args .r + 1 ≡ linkOf word * 512 + (s .args .r + 1)
-  mine-is = omega (arith, link-of (s .args .x .link) _ _ _ link-small (sized .prefix) (passed .long) (sized .priority))
+  mine-is = omega (arith, link-of fits)
 
 -- ---- the rule's ends
 
@@ -138,13 +141,13 @@ mul-source-of : tie.Need-mul-source-of
 mul-source-of c = search needs
 
 element-copy-out-source-of : tie.Need-element-copy-out-source-of
-element-copy-out-source-of c = link-small (c .before .before)
+element-copy-out-source-of c = fits (c .before .before) .link
 
 source-of-requires : tie.Need-source-of-requires
 source-of-requires c κs = search needs
 
 pack-requires : tie.Need-pack-requires
-pack-requires c κs = let s = c .before .before .before .before in (link-small s, passed s .long)
+pack-requires c κs = let s = c .before .before .before .before in (fits s .link, fits s .long)
 
 lower-of-requires : tie.Need-lower-of-requires
 lower-of-requires c κs = search needs
@@ -160,12 +163,11 @@ make-boundary-requires c κs =
     let e = c .before .before .before .before .before in
     let s = at-call e in
     let S = s .pre .0 .sound in
-    let room = room-lower (state s) S (s .args .r) _ _ _ _ (sized s) (s .pre .1 .0) (passed s) in
-    let below = lower-top (state s) S (s .args .r) _ _ _ _ (sized s) (s .pre .1 .0) (passed s) in (
+    let below = room s .lower-top in (
       S .cuts,
       S .numbers,
       omega (arith, low-is e, below),
-      λ h. room (sym (ap (isCut (state s .cut) (state s .atoms)) (low-is e)) ∙ h),
+      λ h. room-lower (state s) S (word s) (room s) (sym (ap (isCut (state s .cut) (state s .atoms)) (low-is e)) ∙ h),
       s .pre .0 .owned .long,
     )
 
@@ -174,13 +176,12 @@ make-boundary-requires-2 c κs =
     let b = c .before .before .before .before in
     let e = at-ends b in
     let s = at-call e in
-    let S = s .pre .0 .sound in
-    let room = subst⁻¹ (λ (m : State). isCut (m .cut) (m .atoms) (upper (word s)) ≡ false → m .atoms < 512) (one-is b) (room-upper (state s) S (s .args .r) _ _ _ _ (sized s) (s .pre .1 .0) (passed s)) in
-    let below = upper-top (state s) S (s .args .r) _ _ _ _ (sized s) (s .pre .1 .0) (passed s) in (
+    let free = subst⁻¹ (λ (m : State). isCut (m .cut) (m .atoms) (upper (word s)) ≡ false → m .atoms < 512) (one-is b) (room-upper (state s) (s .pre .0 .sound) (word s) (room s)) in
+    let below = room s .upper-top in (
       one-whole b .sound .cuts,
       one-whole b .sound .numbers,
       omega (arith, high-is e, below),
-      λ h. room (sym (ap (isCut (one b .cut) (one b .atoms)) (high-is e)) ∙ h),
+      λ h. free (sym (ap (isCut (one b .cut) (one b .atoms)) (high-is e)) ∙ h),
       one-whole b .owned .long,
     )
 

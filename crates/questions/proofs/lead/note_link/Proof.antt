@@ -1,9 +1,9 @@
--- `lead::take_in` meets its contract: one way out for each reason that link l leads nowhere. Assumes nothing.
+-- `lead::note_link` meets its contract: one way out for each reason that link l leads nowhere. Assumes nothing.
 use borrow.Author.Needs.{needs}
 use native.Mathlib.Omega.{arith}
-use Rattle.questions.proofs.Leads.{leads-joined, leads-empty, leads-out, leads-from}
-use Rattle.questions.proofs.lead.take_in.Statement.{statement}
-use Rattle.questions.proofs.lead.take_in.Tie as tie
+use Rattle.questions.proofs.Leads.{leads-let, leads-empty, leads-out, leads-from}
+use Rattle.questions.proofs.lead.note_link.Statement.{statement}
+use Rattle.questions.proofs.lead.note_link.Tie as tie
 
 mul-end : tie.Need-mul-end
 mul-end c = search needs
@@ -35,13 +35,13 @@ join-requires c κs = search needs
 returns-3 : tie.Need-returns-3
 returns-3 c =
     let s = c .before .before .before .before .before in
-    leads-joined _ _ _ _ (s .before .before .before .before .pre .1) _ _ (s .source-of .ensures .0) (c .join .ensures)
+    leads-let _ _ _ _ (s .before .before .before .before .pre .1) _ _ (s .source-of .ensures .0) (c .join .ensures)
 
 returns-4 : tie.Need-returns-4
 returns-4 c = leads-empty _ _ _ _ (c .before .before .before .before .before .before .before .pre .1) (c .before .carries .ensures (c .if3 .left))
 
-pub take-in-spec : {M : Type 1} → statement M
-take-in-spec =
+pub note-link-spec : {M : Type 1} → statement M
+note-link-spec =
     tie.close
     (tie.spec
     mul-end
