@@ -1,4 +1,4 @@
-// Links: a link's word, its source and its end.
+// Links: the word of a link, and its end by the word.
 use meaning::End;
 ghost use mathlib.Core.Path.{_≡_};
 ghost use Prim.Native.Nat.{_*_, _/_, _%_, _<_, _≤_};
@@ -23,7 +23,7 @@ pub fn pack(source: u8, end: End) -> u16
     source as u16 * 1024 + number_of(end)
 }
 
-// The end of a link, by its word: with `source_of` the inverse of `pack`, by the laws source-again, end-again and same-end of meaning's
+// The end of a link, by its word: with `tables::source_of` the inverse of `pack`, by the laws source-again, end-again and same-end of meaning's
 // proofs/Words. Kept to show this: the box goes by the end's number itself.
 pub fn end_of(word: u16) -> End
     requires { ⌜ word % 1024 ≤ 512 ⌝ }

@@ -67,13 +67,3 @@ module _ (next : ℕ → Option ℕ) (end : ℕ → ℕ) where
         let q = comes (g .0) (g .1) in
         let t = turns v o n in
         (q .0, q .1, q .2, round-again (g .0) (q .0) (t .0 - n) v (q .3) (sym (on (at v) n (t .0 - n) (t .0) (g .0) (omega (arith, t .1)) (g .1)) ∙ t .2))
-
-    -- every circle's node that the walk comes to is one of the n from the node that n moves lead to
-    pub all-met : (c u : ℕ) → after next end n (at v) ≡ at c → Reaches next end v u → OnCircle next end u → (d : ℕ) × (d < n) × (after next end d (at c) ≡ at u)
-    all-met c u e r o =
-        let t = turns u o n in
-        let k : ℕ = r .0 + t .0 in
-        let far = on (at v) (r .0) (t .0) k u refl (r .1) ∙ t .2 in
-        let q = comes c e in
-        let f = fewer c (q .0) (q .1) (q .3) (k - n) in
-        (f .0, omega (arith, f .1, q .2), sym (f .2) ∙ sym (on (at v) n (k - n) k c (omega (arith, t .1)) e) ∙ far)

@@ -44,10 +44,6 @@ module _ (old new : State) (v : ℕ) where
   entries-length [] = refl
   entries-length (p ∷ ps) = omega (arith, entries-length ps)
 
-pub overwrite-length : (written old : List ℕ) → length written ≤ length old → length (overwrite written old) ≡ length old
-unfolding overwrite
-overwrite-length written old h = simp (length-append, length-drop) (omega arith)
-
 -- ---- a run ends: a step passes no byte, or some of those there are
 
 pub passed-few : (ask : Record → Answer) (m : State) (room : ℕ) (s : List ℕ) → stepBy ask m room s .passed ≤ length s

@@ -320,7 +320,9 @@ module _ (m : State) (S : Sound m) (w : ℕ) (R : Room m w) where
 
   pub room-upper : isCut (withCut m (lower w) .cut) (withCut m (lower w) .atoms) (upper w) ≡ false → withCut m (lower w) .atoms < 512
   unfolding added
-  room-upper e = omega (arith, rw (missing e) at (R .both), count-lower)
+  room-upper e =
+      let one : _≡_ {A = ℕ} (pick (isCut (m .cut) (m .atoms) (upper w)) 0 1) 1 = rw (missing e) in
+      omega (arith, R .both, one, count-lower)
 
   pub keeps-upper : Sound (withCut (withCut m (lower w)) (upper w))
   keeps-upper = keeps-cut (withCut m (lower w)) keeps-lower (upper w) (R .upper-top) room-upper

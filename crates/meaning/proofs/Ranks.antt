@@ -45,15 +45,6 @@ module _ (E : ℕ → Bool) (rank : ℕ → ℕ) (w i : ℕ) where
   pub lower-by : (x y : ℕ) → x ≡ rank w → y ≡ rank i → E i ≡ true → (w ≡ 256 → ⊥) → y ≤ x → w ≡ better E rank w i
   lower-by x y p q e n h = keep-lower e n (omega arith)
 
-module _ (E : ℕ → Bool) (rank : ℕ → ℕ) where
-  pub best-none : 256 ≡ best E rank 0
-  unfolding best
-  best-none = refl
-
-  pub best-more : (w r i : ℕ) → w ≡ best E rank i → r ≡ better E rank w i → r ≡ best E rank (i + 1)
-  unfolding best
-  best-more w r i e d = rw add-one (d ∙ rw e)
-
 -- what w is among the first k rules
 pub data Outcome (E : ℕ → Bool) (rank : ℕ → ℕ) (k w : ℕ) : Type 0 where
   nobody : w ≡ 256 → ((i : ℕ) → i < k → E i ≡ true → ⊥) → Outcome E rank k w
