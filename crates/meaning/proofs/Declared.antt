@@ -23,7 +23,7 @@ use Rattle.meaning.specs.Run.{Came, start, more}
 use Rattle.meaning.proofs.Words.{Fits, fits}
 use Rattle.meaning.proofs.Sound.{when-none}
 use Rattle.meaning.proofs.Kept.{ClearLink, clear-link, sound}
-use Rattle.meaning.proofs.Demands.{refusedBy, then, Takes, HasNodes, HasLink}
+use Rattle.meaning.proofs.Demands.{refusedBy, then, Takes, HasNodes, HasLink, HasClose}
 use Rattle.meaning.proofs.Taking.{Unmoved, both-step, Took, accepts}
 
 -- ---- what a step declares
@@ -48,6 +48,10 @@ module _ (m : State) (room : ℕ) (s : List ℕ) (r : Record) (T : Takes m room 
 -- an accepted record declares a hall, or leaves the nodes and whether there are any
 HallFork : State → Record → Done → Type 0
 HallFork m r d = ((n : ℕ) × (r ≡ hall n) × (d .answer ≡ Ok)) ⊎ ((d .left .nodes ≡ m .nodes) × ((0 < d .left .phase) ↔ (0 < m .phase)))
+
+-- an accepted record closes the hall, or leaves it closed or open
+CloseFork : State → Record → Done → Type 0
+CloseFork m r d = ((r ≡ close) × (d .answer ≡ Ok) × (d .left .phase ≡ 2)) ⊎ ((d .left .phase ≡ 2) ↔ (m .phase ≡ 2))
 
 -- an accepted record declares a link, or leaves them
 LinkFork : State → Record → Done → Type 0
@@ -74,6 +78,22 @@ module _ (m : State) where
   hall-taken n (reach v w) q = inr (refl, (λ h. h, λ h. h))
   hall-taken n (tally v) q = inr (refl, (λ h. h, λ h. h))
 
+  close-only : (r : Record) (k : ℕ) (a : Answer) → Unmoved a → CloseFork m r (only m k a)
+  unfolding CloseFork only
+  close-only r k a u = inr (λ h. h, λ h. h)
+
+  close-taken : (n : ℕ) (r : Record) → turnedBy m r ≡ none → CloseFork m r (accepted (byAddress m) m n r)
+  unfolding CloseFork accepted answers leaves withNodes withLink closed inserted withRule withCut phaseOf
+  close-taken n (hall v) q = let e : m .phase ≡ 0 = eqb-true (m .phase) 0 (not-false _ (when-none _ _ _ q .0)) in inr (λ h. absurd (omega arith), λ h. absurd (omega arith))
+  close-taken n (link a k e) q = inr (λ h. h, λ h. h)
+  close-taken n close q = inl (refl, refl, refl)
+  close-taken n (insert r l p o t) q = inr (λ h. h, λ h. h)
+  close-taken n (remove r) q = inr (λ h. h, λ h. h)
+  close-taken n loop q = inr (λ h. h, λ h. h)
+  close-taken n (fate v a) q = inr (λ h. h, λ h. h)
+  close-taken n (reach v w) q = inr (λ h. h, λ h. h)
+  close-taken n (tally v) q = inr (λ h. h, λ h. h)
+
   link-taken : (n : ℕ) (r : Record) → LinkFork m r (accepted (byAddress m) m n r)
   unfolding LinkFork accepted answers leaves withNodes closed inserted withRule withCut
   link-taken n (hall v) = inr (refl, refl)
@@ -89,6 +109,9 @@ module _ (m : State) where
   module _ (room : ℕ) (s : List ℕ) where
     hall-fork : HallFork m (recordOf s) (stepOf m room s)
     hall-fork = both-step (λ d e. HallFork m (recordOf s) d) m m room s (hall-only (recordOf s)) refl (λ k q. hall-taken k (recordOf s) q)
+
+    close-fork : CloseFork m (recordOf s) (stepOf m room s)
+    close-fork = both-step (λ d e. CloseFork m (recordOf s) d) m m room s (close-only (recordOf s)) refl (λ k q. close-taken k (recordOf s) q)
 
     link-fork : LinkFork m (recordOf s) (stepOf m room s)
     link-fork = both-step (λ d e. LinkFork m (recordOf s) d) m m room s (link-only (recordOf s)) refl (λ k q. link-taken k (recordOf s))
@@ -120,6 +143,21 @@ has-nodes m (more {m = o} room s c) n = let was = has-nodes o c n in (there (was
         let same : k ≡ n = sym (hall-left o room s k (record { record-is = q; ok = e }) .1) ∙ x .1 in
         inl (record { record-is = q ∙ ap hall same; ok = e })
     back was (inr (q, p)) x = inr (was (p .0 (x .0), sym q ∙ x .1))
+
+-- THE LAW: the hall is closed exactly when a close was accepted
+pub has-close : (m : State) (c : Came m) → HasClose c ↔ (m .phase ≡ 2)
+unfolding HasClose CloseFork
+has-close m start = (λ h. absurd h, λ e. absurd (unfold fresh in omega arith))
+has-close m (more {m = o} room s c) = let was = has-close o c in (there (was .0) (close-fork o room s), back (was .1) (close-fork o room s))
+  where
+    there : (HasClose c → o .phase ≡ 2) → CloseFork o (recordOf s) (stepOf o room s) → Takes o room s close ⊎ HasClose c → then o room s .phase ≡ 2
+    there was f (inl T) = ap (λ (n : State). n .phase) (left-is o room s close T) ∙ (unfold leaves closed in refl)
+    there was (inl (q, a, e)) (inr h) = e
+    there was (inr f) (inr h) = f .1 (was h)
+
+    back : (o .phase ≡ 2 → HasClose c) → CloseFork o (recordOf s) (stepOf o room s) → then o room s .phase ≡ 2 → Takes o room s close ⊎ HasClose c
+    back was (inl (q, a, e)) h = inl (record { record-is = q; ok = a })
+    back was (inr f) h = inr (was (f .0 h))
 
 -- ---- the links
 

@@ -173,6 +173,11 @@ unfoldable pub HasLink : {m : State} → Came m → ℕ → ℕ → ℕ → ℕ 
 HasLink start l a k e = ⊥
 HasLink (more {m = m} room s c) l a k e = ((m .links ≡ l) × Takes m room s (link a k e)) ⊎ HasLink c l a k e
 
+-- and a close
+unfoldable pub HasClose : {m : State} → Came m → Type 0
+HasClose start = ⊥
+HasClose (more {m = m} room s c) = Takes m room s close ⊎ HasClose c
+
 -- on the way by which a state came, rule i was inserted with link l, prefix p, length n and priority t, and no update of rule i was accepted since
 unfoldable pub InForce : {m : State} → Came m → ℕ → ℕ → ℕ → ℕ → ℕ → Type 0
 InForce start i l p n t = ⊥
@@ -181,6 +186,7 @@ InForce (more {m = m} room s c) i l p n t = (Accepts m room s i × (recordOf s �
 pub record Demand2 : Type 0 where
   -- "after any updates": the hall and the links are those declared; what is live is what was inserted and not removed since, with its parts
   pub hall-is : {m : State} (c : Came m) (n : ℕ) → HasNodes c n ↔ ((0 < m .phase) × (m .nodes ≡ n))
+  pub close-is : {m : State} (c : Came m) → HasClose c ↔ (m .phase ≡ 2)
   pub link-is : {m : State} (c : Came m) (l a k e : ℕ) → HasLink c l a k e → (l < m .links) × (sourceOf m l ≡ a) × (endOf m l ≡ k * 256 + e)
   pub linked : {m : State} (c : Came m) (l : ℕ) → l < m .links → (a k e : ℕ) × HasLink c l a k e
   pub rules : {m : State} (c : Came m) (i l p n t : ℕ) → InForce c i l p n t ↔ Stored m i l p n t
@@ -260,27 +266,32 @@ unfoldable pub since : State → List Call → State
 since m [] = m
 since m (c ∷ cs) = since (then m (c .room) (c .bytes)) cs
 
--- x and y are left by two neighbouring updates with different rule numbers, on the bytes s and t, both accepted in either order
+-- x and y are left by two neighbouring updates with different rule numbers, on the bytes s and t, both accepted in either order;
+-- each of the four steps has a room of its own
 pub data EitherOrder : State → State → Type 0 where
-  either : {m : State} (room room′ : ℕ) (s t : List ℕ) (i j : ℕ) → Came m → (i ≡ j → ⊥)
-      → Accepts m room s i → Accepts (then m room s) room′ t j → Accepts m room′ t j → Accepts (then m room′ t) room s i
-      → EitherOrder (then (then m room s) room′ t) (then (then m room′ t) room s)
+  either : {m : State} (first second first′ second′ : ℕ) (s t : List ℕ) (i j : ℕ) → Came m → (i ≡ j → ⊥)
+      → Accepts m first s i → Accepts (then m first s) second t j → Accepts m first′ t j → Accepts (then m first′ t) second′ s i
+      → EitherOrder (then (then m first s) second t) (then (then m first′ t) second′ s)
 
 pub record Demand3 : Type 0 where
   -- "two histories on the same closed hall and links that end with the same live rules (number, prefix, length, priority, link)
   -- give every address at every node the same winner and fate"
   pub same-winner : {m n : State} → Twins m n → (v a : ℕ) → winner m v a ≡ winner n v a
   pub same-fate : {m n : State} → Twins m n → (v a : ℕ) → fateOf m v a ≡ fateOf n v a
-  -- "and every loop, reach and tally question the same answer and witness"
-  pub same-answer : {m n : State} → Twins m n → (room : ℕ) (s : List ℕ) → isQuestion (recordOf s) ≡ true → stepOf m room s .answer ≡ stepOf n room s .answer
+  -- "and every loop, reach and tally question the same answer and witness": each box with a room of its own, both long enough or neither
+  pub same-answer : {m n : State} → Twins m n → (room room′ : ℕ) → ((room < 5 * 512) ↔ (room′ < 5 * 512)) → (s : List ℕ) → isQuestion (recordOf s) ≡ true
+      → stepOf m room s .answer ≡ stepOf n room′ s .answer
   -- "An update that both then accept changes the same addresses, from and to the same links"
   pub changes : {m : State} → Came m → (room : ℕ) (s : List ℕ) (i : ℕ) → Accepts m room s i
       → (a x y : ℕ) → Lists a x y (stepOf m room s .written) ↔ Changes m (then m room s) (nodeOf m (recordOf s)) a x y
   pub same-changes : {m n : State} → Twins m n → (room room′ : ℕ) (s : List ℕ) (i : ℕ) → Accepts m room s i → Accepts n room′ s i
       → (a x y : ℕ) → Lists a x y (stepOf m room s .written) ↔ Lists a x y (stepOf n room′ s .written)
+  pub same-after : {m n : State} → Twins m n → (room room′ : ℕ) (s : List ℕ) (i : ℕ) → Accepts m room s i → Accepts n room′ s i → Twins (then m room s) (then n room′ s)
+  -- "Only the cutting into atoms, their numbers and the room left may differ"
+  pub only : {m n : State} → Twins m n → (m .link ≡ n .link) × (m .rule ≡ n .rule)
   -- "Two neighbouring updates with different rule numbers, both accepted in either order": the same live rules,
   pub same-rules : {x y : State} → EitherOrder x y → Twins x y
   -- "the cutting (the set of boundaries) is the same too"
-  pub same-cutting : {x y : State} → EitherOrder x y → (x .atoms ≡ y .atoms) × (x .cut ≡ y .cut)
+  pub same-cutting : {x y : State} → EitherOrder x y → (calls : List Call) → (since x calls .atoms ≡ since y calls .atoms) × (since x calls .cut ≡ since y calls .cut)
   -- "and every later update, with the same room lent, is accepted or refused alike, with the same number"
   pub same-later : {x y : State} → EitherOrder x y → (calls : List Call) (room : ℕ) (s : List ℕ) → SameStep (stepOf (since x calls) room s) (stepOf (since y calls) room s)

@@ -35,10 +35,10 @@ use Rattle.meaning.proofs.Exchange.{winner-same}
 use Rattle.meaning.proofs.Demands.{checks, Stands, Demand1, Names, Asks, Demand2, Demand3}
 use Rattle.meaning.proofs.Taking.{end-is, asked-passes, asked-is}
 use Rattle.meaning.proofs.Outcomes.{outcome, outcome-once}
-use Rattle.meaning.proofs.Declared.{has-nodes, link-stands, link-declared}
+use Rattle.meaning.proofs.Declared.{has-nodes, has-close, link-stands, link-declared}
 use Rattle.meaning.proofs.Standing.{in-force}
 use Rattle.meaning.proofs.Twins.{twin-rules, twin-links, fates-same, same-asked}
-use Rattle.meaning.proofs.Spread.{changes-listed, same-listed}
+use Rattle.meaning.proofs.Spread.{changes-listed, twins-after, same-listed}
 use Rattle.meaning.proofs.Swapped.{swapped-twins, swapped-cutting, swapped-later}
 
 -- ---- demand 1
@@ -131,6 +131,7 @@ module _ (m : State) (c : Came m) where
 pub demand-2 : Demand2
 demand-2 = record {
   hall-is = λ {m} c. has-nodes m c;
+  close-is = λ {m} c. has-close m c;
   link-is = λ {m} c. link-stands m c;
   linked = λ {m} c. link-declared m c;
   rules = λ {m} c. in-force m c;
@@ -158,6 +159,8 @@ demand-3 = record {
   same-answer = λ {m} {n} T. same-asked m n T;
   changes = λ {m} c. changes-listed m c;
   same-changes = λ {m} {n} T. same-listed m n T;
+  same-after = λ {m} {n} T. twins-after m n T;
+  only = λ {m} {n} T. (twin-links m n T, twin-rules m n T);
   same-rules = swapped-twins;
   same-cutting = swapped-cutting;
   same-later = swapped-later;

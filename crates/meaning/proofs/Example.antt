@@ -46,4 +46,4 @@ unfolding opened stepOf ruleOf
 one-then = record { names = refl; count = 3; ok = refl }
 
 pub met : EitherOrder (then (then hall 2560 one) 2560 two) (then (then hall 2560 two) 2560 one)
-met = either 2560 2560 one two 0 2 came (λ e. omega arith) one-first two-then two-first one-then
+met = either 2560 2560 2560 2560 one two 0 2 came (λ e. omega arith) one-first two-then two-first one-then

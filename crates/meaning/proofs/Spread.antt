@@ -18,7 +18,7 @@ use Rattle.meaning.specs.Atoms.{placeOf, withCut}
 use Rattle.meaning.specs.Changes.{linkOrNone, changedAt, changedPlaces, entryAt, entriesAt}
 use Rattle.meaning.specs.Records.{recordOf, phaseOf}
 use Rattle.meaning.specs.Step.{refusal, withRule, inserted, leaves, listed, nodeOf, changes, accepted, stepOf}
-use Rattle.meaning.specs.Run.{Came}
+use Rattle.meaning.specs.Run.{Came, more}
 use Rattle.meaning.proofs.Tables.{Cuts, Holds}
 use Rattle.meaning.proofs.Places.{place-holds, cut-top}
 use Rattle.meaning.proofs.Covering.{constant-in}
@@ -28,7 +28,7 @@ use Rattle.meaning.proofs.Kept.{clear, room-for, keeps-upper, keeps, so
 use Rattle.meaning.proofs.Exchange.{winner-same, next-same}
 use Rattle.meaning.proofs.Lists.{listed-is}
 use Rattle.meaning.proofs.Demands.{ruleOf, then, Accepts, Twins, Lists, here, later, Changes}
-use Rattle.meaning.proofs.Twins.{twin-rules, twin-links}
+use Rattle.meaning.proofs.Twins.{twins, twin-rules, twin-links}
 use Rattle.meaning.proofs.Taking.{by-update, took-it, left-is, closed-hall, storedBy, stores}
 
 -- ---- a list of entries over addresses
@@ -194,6 +194,15 @@ module _ (m n : State) (rule : m .rule ≡ n .rule) (same : m .link ≡ n .link)
   node-same (tally v) = refl
 
 module _ (m n : State) (T : Twins m n) (room room′ : ℕ) (s : List ℕ) (i : ℕ) (A : Accepts m room s i) (B : Accepts n room′ s i) where
+  -- THE LAW: the two histories end with the same live rules again
+  pub twins-after : Twins (then m room s) (then n room′ s)
+  twins-after =
+      let a = stores m room s i A in
+      let b = stores n room′ s i B in
+      twins _ _ (more room s (T .came .0)) (more room′ s (T .came .1)) (a .phase ∙ T .closed .0) (b .phase ∙ T .closed .1)
+      (a .nodes ∙ T .nodes ∙ sym (b .nodes)) (a .links ∙ T .links ∙ sym (b .links)) (a .link ∙ twin-links m n T ∙ sym (b .link))
+      (a .rule ∙ ap (λ (rs : List ℕ). set rs i (storedBy (recordOf s))) (twin-rules m n T) ∙ sym (b .rule))
+
   -- THE LAW: both lists have the same addresses, from and to the same links
   pub same-listed : (a x y : ℕ) → Lists a x y (stepOf m room s .written) ↔ Lists a x y (stepOf n room′ s .written)
   same-listed a x y = (

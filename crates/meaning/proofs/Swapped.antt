@@ -18,7 +18,7 @@ use Rattle.meaning.proofs.Boundaries.{EndsAt, Ended, boundaries}
 use Rattle.meaning.proofs.Demands.{Twins, then, Accepts, Call, since, SameStep, EitherOrder, either}
 use Rattle.meaning.proofs.Twins.{twins}
 use Rattle.meaning.proofs.Taking.{storedBy, Stores, stores, closed-hall}
-use Rattle.meaning.proofs.Renumbered.{Alike, alike-later}
+use Rattle.meaning.proofs.Renumbered.{Alike, alike-since, alike-later}
 
 -- ---- the boundaries determine the cutting
 
@@ -54,49 +54,49 @@ same-cuts {top} {c} {d} {n} {k} C D f = (many, ext-getD 0 c d (C .long ∙ sym (
 
 -- ---- two updates
 
-module _ (m : State) (room room′ : ℕ) (s t : List ℕ) (i j : ℕ) (c : Came m) (apart : i ≡ j → ⊥)
-    (one : Accepts m room s i) (two : Accepts (then m room s) room′ t j) (one′ : Accepts m room′ t j) (two′ : Accepts (then m room′ t) room s i) where
+module _ (m : State) (first second first′ second′ : ℕ) (s t : List ℕ) (i j : ℕ) (c : Came m) (apart : i ≡ j → ⊥)
+    (one : Accepts m first s i) (two : Accepts (then m first s) second t j) (one′ : Accepts m first′ t j) (two′ : Accepts (then m first′ t) second′ s i) where
   abbrev x : State
-  x = then (then m room s) room′ t
+  x = then (then m first s) second t
 
   abbrev y : State
-  y = then (then m room′ t) room s
+  y = then (then m first′ t) second′ s
 
   came-x : Came x
-  came-x = more room′ t (more room s c)
+  came-x = more second t (more first s c)
 
   came-y : Came y
-  came-y = more room s (more room′ t c)
+  came-y = more second′ s (more first′ t c)
 
   swapped-rules : x .rule ≡ y .rule
   swapped-rules =
-      stores (then m room s) room′ t j two .rule
-      ∙ ap (λ (rs : List ℕ). set rs j (storedBy (recordOf t))) (stores m room s i one .rule)
+      stores (then m first s) second t j two .rule
+      ∙ ap (λ (rs : List ℕ). set rs j (storedBy (recordOf t))) (stores m first s i one .rule)
       ∙ set-comm (m .rule) i j (storedBy (recordOf s)) (storedBy (recordOf t)) apart
-      ∙ sym (ap (λ (rs : List ℕ). set rs i (storedBy (recordOf s))) (stores m room′ t j one′ .rule))
-      ∙ sym (stores (then m room′ t) room s i two′ .rule)
+      ∙ sym (ap (λ (rs : List ℕ). set rs i (storedBy (recordOf s))) (stores m first′ t j one′ .rule))
+      ∙ sym (stores (then m first′ t) second′ s i two′ .rule)
 
   -- an end that one step makes a boundary, the other does too
-  moved : (o p : State) (room : ℕ) (u : List ℕ) (k : ℕ) → Accepts p room u k → (b : ℕ) → EndsAt o room u b → EndsAt p room u b
-  moved o p room u k A b e = record { taken = e .taken; bytes = e .bytes; count = A .count; reads = e .reads; ok = A .ok; end = e .end }
+  moved : (o p : State) (room room′ : ℕ) (u : List ℕ) (k : ℕ) → Accepts p room′ u k → (b : ℕ) → EndsAt o room u b → EndsAt p room′ u b
+  moved o p room room′ u k A b e = record { taken = e .taken; bytes = e .bytes; count = A .count; reads = e .reads; ok = A .ok; end = e .end }
 
   same-boundary : (b : ℕ) → Boundary (x .cut) (x .atoms) b ↔ Boundary (y .cut) (y .atoms) b
   unfolding Ended came-x came-y
   same-boundary b = (λ h. boundaries y came-y b .1 (there (boundaries x came-x b .0 h)), λ h. boundaries x came-x b .1 (back (boundaries y came-y b .0 h)))
     where
-      there : ((b ≡ 0) ⊎ (b ≡ top)) ⊎ ((Ended c b ⊎ EndsAt m room s b) ⊎ EndsAt (then m room s) room′ t b)
-          → ((b ≡ 0) ⊎ (b ≡ top)) ⊎ ((Ended c b ⊎ EndsAt m room′ t b) ⊎ EndsAt (then m room′ t) room s b)
+      there : ((b ≡ 0) ⊎ (b ≡ top)) ⊎ ((Ended c b ⊎ EndsAt m first s b) ⊎ EndsAt (then m first s) second t b)
+          → ((b ≡ 0) ⊎ (b ≡ top)) ⊎ ((Ended c b ⊎ EndsAt m first′ t b) ⊎ EndsAt (then m first′ t) second′ s b)
       there (inl h) = inl h
       there (inr (inl (inl h))) = inr (inl (inl h))
-      there (inr (inl (inr h))) = inr (inr (moved _ _ room s i two′ b h))
-      there (inr (inr h)) = inr (inl (inr (moved _ _ room′ t j one′ b h)))
+      there (inr (inl (inr h))) = inr (inr (moved _ _ first second′ s i two′ b h))
+      there (inr (inr h)) = inr (inl (inr (moved _ _ second first′ t j one′ b h)))
 
-      back : ((b ≡ 0) ⊎ (b ≡ top)) ⊎ ((Ended c b ⊎ EndsAt m room′ t b) ⊎ EndsAt (then m room′ t) room s b)
-          → ((b ≡ 0) ⊎ (b ≡ top)) ⊎ ((Ended c b ⊎ EndsAt m room s b) ⊎ EndsAt (then m room s) room′ t b)
+      back : ((b ≡ 0) ⊎ (b ≡ top)) ⊎ ((Ended c b ⊎ EndsAt m first′ t b) ⊎ EndsAt (then m first′ t) second′ s b)
+          → ((b ≡ 0) ⊎ (b ≡ top)) ⊎ ((Ended c b ⊎ EndsAt m first s b) ⊎ EndsAt (then m first s) second t b)
       back (inl h) = inl h
       back (inr (inl (inl h))) = inr (inl (inl h))
-      back (inr (inl (inr h))) = inr (inr (moved _ _ room′ t j two b h))
-      back (inr (inr h)) = inr (inl (inr (moved _ _ room s i one b h)))
+      back (inr (inl (inr h))) = inr (inr (moved _ _ first′ second t j two b h))
+      back (inr (inr h)) = inr (inl (inr (moved _ _ second′ first s i one b h)))
 
   -- THE LAW: the cutting is the same
   same-cutting : (x .atoms ≡ y .atoms) × (x .cut ≡ y .cut)
@@ -105,8 +105,8 @@ module _ (m : State) (room room′ : ℕ) (s t : List ℕ) (i j : ℕ) (c : Came
   -- what neither of two updates touches
   kept : {A : Type 0} (f : State → A) → ((o p : State) (k w : ℕ) → Stores o p k w → f p ≡ f o) → f x ≡ f y
   kept f h =
-      h _ _ _ _ (stores _ room′ t j two) ∙ h _ _ _ _ (stores _ room s i one)
-      ∙ sym (h _ _ _ _ (stores _ room′ t j one′)) ∙ sym (h _ _ _ _ (stores _ room s i two′))
+      h _ _ _ _ (stores _ second t j two) ∙ h _ _ _ _ (stores _ first s i one)
+      ∙ sym (h _ _ _ _ (stores _ first′ t j one′)) ∙ sym (h _ _ _ _ (stores _ second′ s i two′))
 
   same-alike : Alike x y
   same-alike = record {
@@ -123,17 +123,17 @@ module _ (m : State) (room room′ : ℕ) (s t : List ℕ) (i j : ℕ) (c : Came
   same-twins : Twins x y
   same-twins =
       let A = same-alike in
-      let ph : x .phase ≡ 2 = stores _ room′ t j two .phase ∙ closed-hall _ room′ t j two in
+      let ph : x .phase ≡ 2 = stores _ second t j two .phase ∙ closed-hall _ second t j two in
       twins x y came-x came-y ph (sym (A .phase) ∙ ph) (A .nodes) (A .links) (A .link) (A .rule)
 
 pub swapped-twins : {x y : State} → EitherOrder x y → Twins x y
-swapped-twins (either room room′ s t i j c a one two one′ two′) = same-twins _ room room′ s t i j c a one two one′ two′
-
-pub swapped-cutting : {x y : State} → EitherOrder x y → (x .atoms ≡ y .atoms) × (x .cut ≡ y .cut)
-swapped-cutting (either room room′ s t i j c a one two one′ two′) = same-cutting _ room room′ s t i j c a one two one′ two′
+swapped-twins (either first second first′ second′ s t i j c a one two one′ two′) = same-twins _ first second first′ second′ s t i j c a one two one′ two′
 
 swapped-alike : {x y : State} → EitherOrder x y → Alike x y
-swapped-alike (either room room′ s t i j c a one two one′ two′) = same-alike _ room room′ s t i j c a one two one′ two′
+swapped-alike (either first second first′ second′ s t i j c a one two one′ two′) = same-alike _ first second first′ second′ s t i j c a one two one′ two′
+
+pub swapped-cutting : {x y : State} → EitherOrder x y → (calls : List Call) → (since x calls .atoms ≡ since y calls .atoms) × (since x calls .cut ≡ since y calls .cut)
+swapped-cutting {x} {y} E calls = let A = alike-since calls x y (swapped-alike E) in (A .atoms, A .cut)
 
 -- THE LAW: every later step is taken alike
 pub swapped-later : {x y : State} → EitherOrder x y → (calls : List Call) (room : ℕ) (s : List ℕ) → SameStep (stepOf (since x calls) room s) (stepOf (since y calls) room s)

@@ -1,14 +1,14 @@
 -- Records by kind, a step of two states side by side, and what an accepted insert or remove was. Assumes nothing.
 use mathlib.Core.Path.{_≡_, refl, sym, ap, _∙_}
-use mathlib.Core.Logic.{_↔_}
+use mathlib.Core.Logic.{_↔_, _⊎_, inl, inr}
 use mathlib.Core.Bool.{Bool, true, false, true≢false}
 use mathlib.Core.Option.{Option, none, some}
 use mathlib.Core.List.{List, [], _∷_}
-use Prim.Native.Nat.{ℕ, _*_, _≤_}
+use Prim.Native.Nat.{ℕ, _*_, _≤_, _<_}
 use native.Mathlib.Omega.{arith}
 use lib.Dec.{ltb}
 use lib.ListN.{length, set}
-use borrow.Author.Tests.{eqb-true, eq-eqb, le-ltb, not-false}
+use borrow.Author.Tests.{eqb-true, eq-eqb, lt-ltb, le-ltb, not-false}
 use Rattle.meaning.specs.declared.Answer.{Answer}
 use Rattle.meaning.specs.declared.Answer.the-variants.{End, Refused}
 use Rattle.meaning.specs.declared.Read.{Read}
@@ -22,6 +22,7 @@ use Rattle.meaning.specs.Atoms.{withCut}
 use Rattle.meaning.specs.Questions.{byAddress}
 use Rattle.meaning.specs.Records.{recordOf, readOf, phaseOf, isQuestion}
 use Rattle.meaning.specs.Step.{Done, refusal, withRule, inserted, leaves, turnedBy, only, answers, accepted, taken, stepFor, stepWith, stepBy, stepOf}
+use Rattle.meaning.proofs.Places.{le-or-lt}
 use Rattle.meaning.proofs.Sound.{when-none}
 use Rattle.meaning.proofs.Steps.{Stepped, short, ended, unread, turned, took, stepped}
 use Rattle.meaning.proofs.Begins.{Begins, nothing, unread as without, whole, begins}
@@ -56,7 +57,22 @@ by-update P i f g (fate v a) e = let z : _≡_ {A = ℕ} 0 1 = cc in absurd (ome
 by-update P i f g (reach v w) e = let z : _≡_ {A = ℕ} 0 1 = cc in absurd (omega arith)
 by-update P i f g (tally v) e = let z : _≡_ {A = ℕ} 0 1 = cc in absurd (omega arith)
 
--- ---- two states side by side
+-- ---- two steps side by side
+
+-- two tests that hold together are the same
+same-test : (i j k : ℕ) → ((i < k) ↔ (j < k)) → ltb i k ≡ ltb j k
+same-test i j k f = go (le-or-lt k i) (le-or-lt k j)
+  where
+    go : (k ≤ i) ⊎ (i < k) → (k ≤ j) ⊎ (j < k) → ltb i k ≡ ltb j k
+    go (inl h) (inl g) = le-ltb i k h ∙ sym (le-ltb j k g)
+    go (inl h) (inr g) = absurd (omega (arith, f .1 g))
+    go (inr h) (inl g) = absurd (omega (arith, f .0 h))
+    go (inr h) (inr g) = lt-ltb i k h ∙ sym (lt-ltb j k g)
+
+-- of the room that is lent a step sees only whether it is enough
+pub any-room : (m : State) (room room′ : ℕ) (s : List ℕ) → ((room < 5 * 512) ↔ (room′ < 5 * 512)) → stepOf m room s ≡ stepOf m room′ s
+unfolding stepOf stepBy stepWith
+any-room m room room′ s f = rw (same-test room room′ 2560 f)
 
 -- the answers of a step that leaves all as it was before a record is taken
 pub data Unmoved : Answer → Type 0 where

@@ -1,11 +1,11 @@
 -- Two histories that end with the same live rules, part by part, end with the same words: so every winner, fate and answer is the same.
 -- Assumes nothing.
 use mathlib.Core.Path.{_≡_, refl, sym, ap, _∙_}
-use mathlib.Core.Logic.{_⊎_, inl, inr, ⊎-elim}
+use mathlib.Core.Logic.{_↔_, _⊎_, inl, inr, ⊎-elim}
 use mathlib.Core.Bool.{Bool, true, false, true≢false}
 use mathlib.Core.Option.{Option, none, some}
 use mathlib.Core.List.{List, []}
-use Prim.Native.Nat.{ℕ, _≤_, _<_}
+use Prim.Native.Nat.{ℕ, _*_, _≤_, _<_}
 use native.Mathlib.Decide.{ℕ-discrete}
 use native.Mathlib.Omega.{arith}
 use lib.ListN.{length, getD, set}
@@ -19,14 +19,14 @@ use Rattle.meaning.specs.Winner.{ruleAt, eligible, winner, linkFor, next
 use Rattle.meaning.specs.Atoms.{withCut}
 use Rattle.meaning.specs.Questions.{fateOf, loopsAt, circleAt, loopFrom, reachesAt, asked, byAddress}
 use Rattle.meaning.specs.Records.{recordOf, phaseOf, isQuestion}
-use Rattle.meaning.specs.Step.{refusal, withRule, inserted, withNodes, withLink, closed, leaves, turnedBy, only, answers, accepted, stepOf}
+use Rattle.meaning.specs.Step.{Done, refusal, withRule, inserted, withNodes, withLink, closed, leaves, turnedBy, only, answers, accepted, stepOf}
 use Rattle.meaning.specs.Run.{Came, start, more}
 use Rattle.meaning.proofs.Places.{le-or-lt}
 use Rattle.meaning.proofs.Words.{RuleFits, Fits, link-of, rank-of, lower-of, length-of, free-zero}
 use Rattle.meaning.proofs.Sound.{Sound, step-keeps, fresh-sound}
 use Rattle.meaning.proofs.Kept.{clear, rule-fits, sound}
 use Rattle.meaning.proofs.Demands.{Twins}
-use Rattle.meaning.proofs.Taking.{by-question, both-step}
+use Rattle.meaning.proofs.Taking.{any-room, by-question, both-step}
 
 -- ---- a live rule's word is the word of its parts
 
@@ -168,6 +168,7 @@ module _ (m n : State) (T : Twins m n) where
       by-question (λ r. answers (byAddress m) m r ≡ answers (byAddress n) n r) (f loop) (λ v a. f (fate v a)) (λ v w. f (reach v w)) (λ v. f (tally v))
 
   -- THE LAW: every question has the same answer and witness
-  pub same-asked : (room : ℕ) (s : List ℕ) → isQuestion (recordOf s) ≡ true → stepOf m room s .answer ≡ stepOf n room s .answer
-  same-asked room s e =
+  pub same-asked : (room room′ : ℕ) → ((room < 5 * 512) ↔ (room′ < 5 * 512)) → (s : List ℕ) → isQuestion (recordOf s) ≡ true → stepOf m room s .answer ≡ stepOf n room′ s .answer
+  same-asked room room′ f s e =
       both-step (λ d e. d .answer ≡ e .answer) m n room s (λ k a u. unfold only in refl) (same-turned (recordOf s) e) (λ k q. same-reply k (recordOf s) e)
+      ∙ ap (λ (d : Done). d .answer) (any-room n room room′ s f)
