@@ -1,5 +1,5 @@
 -- The boundaries after any records are 0, the end of the range and both ends of each rule accepted since the start; removal keeps them.
--- How atoms are numbered: atom 0 starts at 0, a split atom keeps its number below, and the part above takes the next. Assumes nothing.
+-- So an insert adds as many as check 13 counts. Assumes nothing.
 use mathlib.Core.Path.{_≡_, refl, sym, ap, _∙_, subst}
 use mathlib.Core.Logic.{_↔_, _⊎_, inl, inr, ⊎-elim}
 use mathlib.Core.Bool.{Bool, true, false}
@@ -99,7 +99,7 @@ module _ (m : State) (S : Sound m) (r l p n t : ℕ) (F : Sized l p t) (C : Clea
       ⊎-elim (λ (e : x ≡ lower w). inl (inl (e ∙ from-is))) inr (lower-only x g)) (upper-only x h)
 
   -- so the count of check 13 is exact: as many boundaries are added as it says
-  same-cut : isCut (M .cut) (M .atoms) (upper w) ≡ isCut (m .cut) (m .atoms) (upper w)
+  pub same-cut : isCut (M .cut) (M .atoms) (upper w) ≡ isCut (m .cut) (m .atoms) (upper w)
   same-cut = go _ refl _ refl
     where
       go : (x : Bool) → isCut (M .cut) (M .atoms) (upper w) ≡ x → (y : Bool) → isCut (m .cut) (m .atoms) (upper w) ≡ y → x ≡ y
