@@ -1,21 +1,25 @@
 -- The atoms after any records: each address lies in exactly one, their numbers are those below the counter, the winners are constant on each,
--- and an atom is on a link exactly when, for each of its addresses, the winner at the link's source names the link. Assumes nothing.
+-- and an atom is on a link exactly when, for each of its addresses, the winner at the link's source names the link. What is asked of a label itself: how many atoms are on the link, and which is the lowest-numbered. Assumes nothing.
 use mathlib.Core.Path.{_≡_, refl, sym, ap, _∙_}
-use mathlib.Core.Logic.{_↔_}
+use mathlib.Core.Logic.{_↔_, ⊎-elim}
 use mathlib.Core.Bool.{true, false, true≢false}
 use mathlib.Core.Option.{Option, none, some}
+use mathlib.Core.List.{List}
 use Prim.Native.Nat.{ℕ, _+_, _≤_, _<_}
 use native.Mathlib.Numerals.{add-one}
 use native.Mathlib.Omega.{arith}
 use lib.ListN.{getD}
-use borrow.Author.Tests.{eqb-true, eq-eqb}
+use borrow.Author.Tests.{eqb-true, eq-eqb, lt-ltb, le-ltb}
+use Rattle.meaning.specs.Search.{lowestBelow, countBelow}
 use Rattle.meaning.specs.Hall.{top, State, sourceOf}
 use Rattle.meaning.specs.Winner.{winner, nextAt}
 use Rattle.meaning.specs.Atoms.{placeOf}
-use Rattle.meaning.specs.Labels.{on, names, isOn, labelsOf}
+use Rattle.meaning.specs.Labels.{on, names, isOn, labelsOf, howMany, lowestOn}
 use Rattle.meaning.specs.Run.{Came}
 use Rattle.meaning.proofs.Tables.{Holds}
-use Rattle.meaning.proofs.Places.{place-holds, holds-place, lower-holds, cut-top}
+use Rattle.meaning.proofs.Below.{count-same, count-until}
+use Rattle.meaning.proofs.Searches.{lowest-agree}
+use Rattle.meaning.proofs.Places.{le-or-lt, place-holds, holds-place, lower-holds, cut-top}
 use Rattle.meaning.proofs.Numbered.{has-place, on-without}
 use Rattle.meaning.proofs.Constant.{same-winner, same-next}
 use Rattle.meaning.proofs.Members.{labels-on, one-place, on-place}
@@ -120,3 +124,29 @@ module _ (m : State) (c : Came m) where
 
   pub no-bit : (l k : ℕ) → l < 64 → m .atoms ≤ k → k < 512 → on (labelsOf m) l k ≡ false
   no-bit l k hl h hk = labels-on m l k hl hk ∙ no-atom l k h
+
+-- ---- how many atoms a link has, and the lowest-numbered one, asked of the label itself
+
+-- there are no links but 64
+pub no-label : (label : List ℕ) (l : ℕ) → 64 ≤ l → (howMany label l ≡ 0) × (lowestOn label l ≡ none)
+unfolding howMany lowestOn
+no-label label l h = rw (le-ltb l 64 h) (refl, refl)
+
+module _ (m : State) (c : Came m) (l : ℕ) (hl : l < 64) where
+  -- THE LAW: a link has as many atoms as are on it
+  pub how-many : howMany (labelsOf m) l ≡ countBelow (m .atoms) (isOn m l)
+  unfolding howMany
+  how-many =
+      rw (lt-ltb l 64 hl)
+      (count-same (on (labelsOf m) l) (isOn m l) 512 (λ k h. labels-on m l k hl h) ∙ count-until (isOn m l) (m .atoms) 512 (few-atoms m c) (λ k h g. no-atom m c l k h))
+
+  -- THE LAW: the lowest-numbered one is the lowest that is on it, and there is none where none is
+  pub lowest-numbered : lowestOn (labelsOf m) l ≡ lowestBelow (m .atoms) (isOn m l)
+  unfolding lowestOn
+  lowest-numbered =
+      rw (lt-ltb l 64 hl)
+      (lowest-agree (on (labelsOf m) l) (isOn m l) 512 (m .atoms)
+      (λ k h e. let x = sym (labels-on m l k hl h) ∙ e in (on-below k x, x)) (λ k h e. let x : k < 512 = omega (arith, few-atoms m c) in (x, labels-on m l k hl x ∙ e)))
+    where
+      on-below : (k : ℕ) → isOn m l k ≡ true → k < m .atoms
+      on-below k e = ⊎-elim (λ (h : m .atoms ≤ k). absurd (true≢false (sym e ∙ no-atom m c l k h))) (λ h. h) (le-or-lt (m .atoms) k)

@@ -21,7 +21,6 @@ pub mod Asked
 pub mod Twins
 pub mod Swapped
 pub mod Renumbered
-pub mod Refusals
 pub mod Outcomes
 pub mod Steps
 pub mod Stops

@@ -24,10 +24,9 @@ use Rattle.meaning.specs.Step.{when, ragged, clashes, added, refusal, tu
 use Rattle.meaning.specs.Run.{Came}
 use Rattle.meaning.proofs.Places.{le-or-lt}
 use Rattle.meaning.proofs.Words.{RuleFits, Fits, fits, link-of, rank-of, lower-of, upper-of, within-top}
-use Rattle.meaning.proofs.Members.{or-neither}
+use Rattle.meaning.proofs.Members.{any-true, any-some, and-both, or-neither}
 use Rattle.meaning.proofs.Kept.{sound}
-use Rattle.meaning.proofs.Winners.{covers-is}
-use Rattle.meaning.proofs.Refusals.{ties, tie-found}
+use Rattle.meaning.proofs.Winners.{covers-is, overlap-is}
 use Rattle.meaning.proofs.Demands.{Check, check, Outcome, Ties, innerWith, checksOf, checks, refusedBy}
 use Rattle.meaning.proofs.Inner.{inner-count}
 
@@ -103,34 +102,33 @@ module _ (m : State) (c : Came m) where
     rank-is = rank-of R
 
     tie-test : Test (clashes m w) (Ties m l p n t)
+    unfolding clashes
     tie-test = (there, back)
       where
         there : clashes m w ≡ true → Ties m l p n t
         there e =
-            let x = ties m w e in
-            let y = x .1 in
-            let ours = covers-is (ruleAt m (x .0)) (y .shared) .0 (y .ours) in
-            let theirs = covers-is w (y .shared) .0 (y .theirs) in
+            let x = any-some _ 256 e in
+            let alive = and-both _ _ (x .2) in
+            let node = and-both _ _ (alive .1) in
+            let priority = and-both _ _ (node .1) in
+            let shared = overlap-is (ruleAt m (x .0)) w .0 (priority .1) in
+            let ours = covers-is (ruleAt m (x .0)) (shared .0) .0 (shared .1) in
+            let theirs = covers-is w (shared .0) .0 (shared .2) in
             record {
-              address = y .shared;
+              address = shared .0;
               rule = x .0;
-              serves = record { number = y .number; alive = y .alive; here = y .node ∙ node-is; from = ours .0; below = ours .1 };
-              priority = y .priority ∙ rank-is;
+              serves = record { number = x .1; alive = alive .0; here = eqb-true _ _ (node .0) ∙ node-is; from = ours .0; below = ours .1 };
+              priority = eqb-true _ _ (priority .0) ∙ rank-is;
               from = omega (arith, theirs .0, from-is);
               below = omega (arith, theirs .1, to-is);
             }
 
         back : Ties m l p n t → clashes m w ≡ true
         back y =
-            tie-found m w (y .rule) (record {
-              number = y .serves .number;
-              alive = y .serves .alive;
-              node = y .serves .here ∙ sym node-is;
-              priority = y .priority ∙ sym rank-is;
-              shared = y .address;
-              ours = covers-is (ruleAt m (y .rule)) (y .address) .1 (y .serves .from, y .serves .below);
-              theirs = covers-is w (y .address) .1 (omega (arith, y .from, from-is), omega (arith, y .below, to-is));
-            })
+            let ours = covers-is (ruleAt m (y .rule)) (y .address) .1 (y .serves .from, y .serves .below) in
+            let theirs = covers-is w (y .address) .1 (omega (arith, y .from, from-is), omega (arith, y .below, to-is)) in
+            any-true _ 256 (y .rule) (y .serves .number)
+            (rw (y .serves .alive, eq-eqb _ _ (y .serves .here ∙ sym node-is), eq-eqb _ _ (y .priority ∙ sym rank-is)) (overlap-is (ruleAt m (y .rule)) w .1 (y .address, ours, theirs)))
 
     inner-test : p % 2 ^ (32 - n) ≡ 0 → Test (ltb 512 (m .atoms + added m w)) (511 < innerWith m p n)
     inner-test flush =

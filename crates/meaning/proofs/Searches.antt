@@ -45,6 +45,21 @@ sought P (suc n) = go (lowestBelow n P) (sought P n) (P n) refl
     go o (missing f) false e =
         missing (λ i h p. ⊎-elim (λ (q : i ≡ n). true≢false (sym p ∙ ap P q ∙ e)) (λ (l : i < n). f i l p) (eq-or-lt-of-le (le-of-suc-le-suc h)))
 
+-- two searches for the same numbers
+pub lowest-agree : (P Q : ℕ → Bool) (m n : ℕ) → ((i : ℕ) → i < m → P i ≡ true → (i < n) × (Q i ≡ true)) → ((i : ℕ) → i < n → Q i ≡ true → (i < m) × (P i ≡ true))
+    → lowestBelow m P ≡ lowestBelow n Q
+lowest-agree P Q m n f g = go _ _ (sought P m) (sought Q n)
+  where
+    go : (o p : Option ℕ) → Sought P m o → Sought Q n p → o ≡ p
+    go o p (missing x) (missing y) = refl
+    go o p (missing x) (found b y) = let z = g b (y .within) (y .has) in absurd (x b (z .0) (z .1))
+    go o p (found a x) (missing y) = let z = f a (x .within) (x .has) in absurd (y a (z .0) (z .1))
+    go o p (found a x) (found b y) = ap some (lowest-once m (λ i. P i ≡ true) a b x (record {
+      within = g b (y .within) (y .has) .0;
+      has = g b (y .within) (y .has) .1;
+      first = λ i h e. y .first i h (f i (omega (arith, g b (y .within) (y .has) .0)) e .1);
+    }))
+
 module _ (P : ℕ → Bool) (n : ℕ) where
   pub lowest-is : (a : ℕ) → (lowestBelow n P ≡ some a) ↔ Lowest n (λ i. P i ≡ true) a
   lowest-is a = (there _ (sought P n), back _ (sought P n))

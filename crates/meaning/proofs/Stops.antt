@@ -1,14 +1,14 @@
--- Where the place stays and where it goes on: a step passes no byte exactly when it is answered "end", 0, 1 or 2, and a run stops at one of these.
--- How many entries an accepted insert or remove writes. Assumes nothing.
+-- Where the place stays and where it goes on: a step passes no byte exactly when it is answered "end", 0, 1 or 2, and a run stops at one of these;
+-- a reader goes on as a step does. What stands in the lent list, and how many entries an accepted insert or remove writes. Assumes nothing.
 use mathlib.Core.Path.{_≡_, refl, ap, _∙_}
 use mathlib.Core.Logic.{_↔_, inl, inr}
 use mathlib.Core.Bool.{false}
 use mathlib.Core.Option.{Option, none, some}
 use mathlib.Core.List.{List}
-use Prim.Native.Nat.{ℕ, zero, suc, _+_, _*_, _≤_, _<_}
+use Prim.Native.Nat.{ℕ, zero, suc, _+_, _-_, _*_, _≤_, _<_}
 use native.Mathlib.Omega.{arith}
-use lib.ListN.{length, drop, length-drop}
-use lib.Seq.{drop-drop}
+use lib.ListN.{length, getD, drop, length-append, length-drop, List·getD-append}
+use lib.Seq.{drop-drop, getD-append-add, getD-drop}
 use Rattle.meaning.specs.declared.Answer.{Answer}
 use Rattle.meaning.specs.declared.Answer.the-variants.{End, Refused, Ok, Changed, Loop, NoLoop, Went, Yes, No, Tally}
 use Rattle.meaning.specs.declared.Record.{Record}
@@ -19,6 +19,7 @@ use Rattle.meaning.specs.Rule.{linkOf}
 use Rattle.meaning.specs.Winner.{ruleAt}
 use Rattle.meaning.specs.Changes.{overwrite}
 use Rattle.meaning.specs.Questions.{loopsAt, circleAt, someNode, loopFrom, reachesAt, reachFrom, asked, byAddress}
+use Rattle.meaning.specs.Records.{readOf, placeAfter}
 use Rattle.meaning.specs.Step.{Done, leaves, listed, changes, only, answers, accepted, stepOf}
 use Rattle.meaning.specs.Run.{Ran, onward, runFrom, runOf, Came, start, more}
 use Rattle.meaning.proofs.Sound.{Sound}
@@ -119,6 +120,35 @@ module _ (m : State) (room : ℕ) (s : List ℕ) where
       back d (unread k l q o) h = refl
       back d (turned r n k l q pos f b) h = absurd (omega (arith, stop-few k h))
       back d (took r n l q pos f) h = absurd (answer-sort r (stop-sort _ h))
+
+-- THE LAW: a reader goes on by as many bytes as a step passes, whatever the state
+pub reader-follows : (m : State) (room : ℕ) (s : List ℕ) (at : ℕ) → 5 * 512 ≤ room → placeAfter at (readOf s) ≡ at + stepOf m room s .passed
+unfolding stepOf only accepted placeAfter
+reader-follows m room s at h = go _ (stepped _ m room s)
+  where
+    go : (d : Done) → Stepped (byAddress m) m room s d → placeAfter at (readOf s) ≡ at + d .passed
+    go d (short l) = absurd (omega arith)
+    go d (ended l q) = rw q (omega arith)
+    go d (unread k l q o) = rw q (omega arith)
+    go d (turned r n k l q pos f b) = rw q refl
+    go d (took r n l q pos f) = rw q refl
+
+-- ---- the lent list
+
+-- THE LAW: the words written stand at its front, and what is behind them stays as it was
+pub overwritten : (written old : List ℕ) (i : ℕ) → i < length written → getD (overwrite written old) i 0 ≡ getD written i 0
+unfolding overwrite
+overwritten written old i h = List·getD-append written (drop (length written) old) 0 i h
+
+pub behind-stays : (written old : List ℕ) (i : ℕ) → length written ≤ i → getD (overwrite written old) i 0 ≡ getD old i 0
+unfolding overwrite
+behind-stays written old i h =
+    let e : length written + (i - length written) ≡ i = omega arith in
+    rw (← e) (getD-append-add written (drop (length written) old) (i - length written) 0 ∙ getD-drop (length written) old (i - length written) 0)
+
+pub long-as-before : (written old : List ℕ) → length written ≤ length old → length (overwrite written old) ≡ length old
+unfolding overwrite
+long-as-before written old h = length-append written (drop (length written) old) ∙ omega (arith, length-drop (length written) old)
 
 -- ---- the run
 

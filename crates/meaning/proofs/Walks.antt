@@ -28,7 +28,7 @@ module _ (next : ℕ → Option ℕ) (end : ℕ → ℕ) where
   IsFate v (Lost w h) = (after next end h (at v) ≡ at w) × (move next end (at w) ≡ lost w)
   IsFate v Round = Never (at v)
 
-  -- the nodes are those below n: from none of them a move leads to another node
+  -- the nodes are those below n: a move from one of them leads to one of them, if to a node
   abbrev pub Closed : ℕ → Type 0
   Closed n = (v w : ℕ) → v < n → move next end (at v) ≡ at w → w < n
 
