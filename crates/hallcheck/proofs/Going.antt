@@ -8,7 +8,8 @@ use lib.Seq.{length-take-le}
 use Rattle.meaning.specs.declared.Answer.{Answer}
 use Rattle.meaning.specs.declared.Answer.the-variants.{Changed}
 use Rattle.meaning.specs.Hall.{State, fresh}
-use Rattle.meaning.specs.Labels.{labelsOf, ownersOf}
+use Rattle.meaning.specs.Labels.{labelsOf}
+use Rattle.meaning.specs.Working.{ownersOf}
 use Rattle.meaning.specs.Run.{start}
 use Rattle.meaning.specs.Questions.{byAddress}
 use Rattle.meaning.specs.Step.{stepOf}

@@ -21,7 +21,7 @@ use Rattle.meaning.specs.Rule.{ruleWord, lower, upper}
 use Rattle.meaning.specs.Atoms.{placeOf, isCut, insertAt, splitCut, splitCount, withCut}
 use Rattle.meaning.specs.Questions.{byAddress}
 use Rattle.meaning.specs.Records.{readOf, phaseOf}
-use Rattle.meaning.specs.Step.{Done, refusal, added, withRule, inserted, withNodes, withLink, closed, leaves, only, answers, accepted, stepBy, stepOf}
+use Rattle.meaning.specs.Step.{Done, refusal, added, withRule, inserted, withNodes, withLink, closed, leaves, only, answers, accepted, stepWith, stepOf}
 use Rattle.meaning.specs.Run.{Came, start, more}
 use Rattle.meaning.proofs.Tables.{Cuts, Boundary}
 use Rattle.meaning.proofs.Insert.{insert-below, insert-same, insert-over}
@@ -205,7 +205,7 @@ module _ (m : State) (S : Sound m) (x : ℕ) where
     unfolding stepOf only accepted
     step-only = go _ (stepped (byAddress m) m room s) refl
       where
-        go : (d : Done) → Stepped (byAddress m) m room s d → stepBy (byAddress m) m room s ≡ d → Is (d .left) → EndsAt m room s x ⊎ Was
+        go : (d : Done) → Stepped (byAddress m) m room s d → stepWith (byAddress m) m room (readOf s) ≡ d → Is (d .left) → EndsAt m room s x ⊎ Was
         go d (short l) e h = inr h
         go d (ended l g) e h = inr h
         go d (unread k l g o) e h = inr h

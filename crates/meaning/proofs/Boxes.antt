@@ -14,11 +14,12 @@ use Rattle.meaning.specs.declared.Read.the-variants.{End as Nothing, Ref
 use Rattle.meaning.specs.declared.Record.{Record}
 use Rattle.meaning.specs.declared.Record.the-variants.{Insert as insert, Remove as remove}
 use Rattle.meaning.specs.Hall.{State}
-use Rattle.meaning.specs.Labels.{labelsOf, ownersOf}
+use Rattle.meaning.specs.Labels.{labelsOf}
+use Rattle.meaning.specs.Working.{ownersOf}
 use Rattle.meaning.specs.Changes.{entriesAt, overwrite}
 use Rattle.meaning.specs.Questions.{byAddress}
 use Rattle.meaning.specs.Records.{readOf, phaseOf, isQuestion}
-use Rattle.meaning.specs.Step.{when, refusal, turnedBy, leaves, listed, nodeOf, changes, only, answers, accepted, taken, stepFor, stepWith, stepBy, stepOf, replyTo}
+use Rattle.meaning.specs.Step.{when, refusal, turnedBy, leaves, listed, nodeOf, changes, only, answers, accepted, taken, stepFor, stepWith, stepOf, replyTo}
 use Rattle.meaning.specs.Run.{Came, more}
 use Rattle.meaning.specs.Answers.{said}
 use Rattle.meaning.specs.Box.{Held, Left, left, leftBy, leftFor, leftOf}
@@ -99,7 +100,7 @@ order-leaves m list room r n o = rw (le-ltb (length list) 2560 room, eq-eqb (m .
 
 -- and by the bytes that were read
 pub read-leaves : (m : State) (list s : List ℕ) (x : Read) → readOf s ≡ x → leftFor m list x ≡ leftOf m list s
-unfolding leftFor leftOf stepOf stepBy
+unfolding leftFor leftOf stepOf
 read-leaves m list s x e = ap (λ (y : Read). leftBy list (stepWith (byAddress m) m (length list) y)) (sym e)
 
 -- ---- a record in its order

@@ -17,7 +17,8 @@ use Rattle.meaning.specs.Search.{pick, orElse}
 use Rattle.meaning.specs.Hall.{top, State, endOf}
 use Rattle.meaning.specs.Winner.{nextAt}
 use Rattle.meaning.specs.Walk.{onCircle, comesTo, fateIn}
-use Rattle.meaning.specs.Questions.{leastPlace, countPlace, fateOf, loopsAt, circleAt, someNode, loopFrom, reachesAt, reachFrom, isOut, isLost, isRound, asked, byAddress, byPlace}
+use Rattle.meaning.specs.Questions.{fateOf, loopsAt, circleAt, someNode, loopFrom, reachesAt, reachFrom, isOut, isLost, isRound, asked, byAddress}
+use Rattle.meaning.specs.Working.{leastPlace, countPlace, byPlace}
 use Rattle.meaning.proofs.Tables.{Cuts, Holds}
 use Rattle.meaning.proofs.Places.{cut-top, lower-holds}
 use Rattle.meaning.proofs.Constant.{by-place}

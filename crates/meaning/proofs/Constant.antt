@@ -17,7 +17,8 @@ use Rattle.meaning.specs.Rule.{live, linkOf, rank, lower, upper, covers}
 use Rattle.meaning.specs.Winner.{better, best, ruleAt, eligible, winner, linkFor, nextAt}
 use Rattle.meaning.proofs.Tables.{Cuts, Boundary}
 use Rattle.meaning.specs.Walk.{goesRound, comesTo, fateIn}
-use Rattle.meaning.specs.Questions.{leastPlace, countPlace, fateOf, loopsAt, loopFrom, reachesAt, reachFrom, isOut, isLost, isRound, asked, byAddress, byPlace}
+use Rattle.meaning.specs.Questions.{fateOf, loopsAt, loopFrom, reachesAt, reachFrom, isOut, isLost, isRound, asked, byAddress}
+use Rattle.meaning.specs.Working.{leastPlace, countPlace, byPlace}
 use Rattle.meaning.specs.declared.Record.{Record}
 use Rattle.meaning.specs.declared.Record.the-variants.{Hall as hall, Link as link, Close as close, Insert as insert, Remove as remove, Loop as loop, Fate as fate, Reach as reach, Tally as tally}
 use Rattle.meaning.proofs.Places.{beside}

@@ -18,7 +18,8 @@ use Rattle.meaning.specs.Hall.{top, State, fresh, sourceOf, endOf}
 use Rattle.meaning.specs.Rule.{live, linkOf, lengthOf, rank, lower}
 use Rattle.meaning.specs.Winner.{ruleAt, winner, nextAt}
 use Rattle.meaning.specs.Atoms.{isCut}
-use Rattle.meaning.specs.Labels.{on, labelsOf, ownersOf}
+use Rattle.meaning.specs.Labels.{on, labelsOf}
+use Rattle.meaning.specs.Working.{ownersOf}
 use Rattle.meaning.specs.Changes.{linkOrNone}
 use Rattle.meaning.specs.Questions.{isOut, isLost, isRound, fateOf}
 use Rattle.meaning.specs.Records.{bodyOf, recordOf, phaseOf, isQuestion}

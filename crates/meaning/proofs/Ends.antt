@@ -5,7 +5,8 @@ use mathlib.Core.Option.{Option, none, some}
 use mathlib.Core.List.{List, [], _∷_}
 use Prim.Native.Nat.{ℕ, zero, suc, _+_, _*_, _≤_, _<_}
 use native.Mathlib.Omega.{arith}
-use lib.Dec.{ltb}
+use borrow.Author.Tests.{ne-eqb}
+use lib.Dec.{ltb, eqb}
 use lib.ListN.{length, drop, length-append, length-drop}
 use Rattle.meaning.specs.declared.Answer.{Answer}
 use Rattle.meaning.specs.declared.Answer.the-variants.{Refused}
@@ -16,9 +17,9 @@ use Rattle.meaning.specs.Changes.{changedAt, changedPlaces, entryAt, ent
 use Rattle.meaning.specs.declared.Record.{Record}
 use Rattle.meaning.specs.declared.Read.{Read}
 use Rattle.meaning.specs.Records.{recordOf, readOf}
-use Rattle.meaning.specs.Step.{Done, turnedBy, only, accepted, taken, stepFor, stepWith, stepBy}
+use Rattle.meaning.specs.Step.{Done, turnedBy, only, accepted, taken, stepFor, stepWith}
 use Rattle.meaning.proofs.Begins.{Begins, nothing, unread, whole, begins}
-use Rattle.meaning.specs.Run.{Ran, onward, runFrom}
+use Rattle.meaning.specs.Run.{Ran, runFrom}
 use Rattle.meaning.proofs.Sound.{fresh-sound}
 use Rattle.meaning.proofs.Idle.{labels-idle}
 
@@ -46,8 +47,8 @@ module _ (old new : State) (v : ℕ) where
 
 -- ---- a run ends: a step passes no byte, or some of those there are
 
-pub passed-few : (ask : Record → Answer) (m : State) (room : ℕ) (s : List ℕ) → stepBy ask m room s .passed ≤ length s
-unfolding stepBy stepWith stepFor only taken accepted
+pub passed-few : (ask : Record → Answer) (m : State) (room : ℕ) (s : List ℕ) → stepWith ask m room (readOf s) .passed ≤ length s
+unfolding stepWith stepFor only taken accepted
 passed-few ask m room s = go (ltb room 2560) (readOf s) (begins s)
   where
     last : (n : ℕ) (r : Record) (o : Option ℕ) → n ≤ length s → taken ask m n r o .passed ≤ length s
@@ -63,7 +64,7 @@ passed-few ask m room s = go (ltb room 2560) (readOf s) (begins s)
 -- so turns enough are as good as any more
 pub run-enough : (step : State → ℕ → List ℕ → Done) → ((m : State) (room : ℕ) (s : List ℕ) → step m room s .passed ≤ length s)
     → (k j n : ℕ) (m : State) (list s : List ℕ) → length s < k → k ≤ j → runFrom step k n m list s ≡ runFrom step j n m list s
-unfolding runFrom onward
+unfolding runFrom
 run-enough step f zero j n m list s h l = absurd (omega arith)
 run-enough step f (suc k) zero n m list s h l = absurd (omega arith)
 run-enough step f (suc k) (suc j) n m list s h l =
@@ -78,6 +79,6 @@ run-enough step f (suc k) (suc j) n m list s h l =
     here : Ran
     here = record { past = n; stopped = d .answer; left = d .left; list = overwrite (d .written) list }
 
-    go : (p : ℕ) → d .passed ≡ p → (length (drop (d .passed) s) < k → k ≤ j → on k ≡ on j) → onward p here (on k) ≡ onward p here (on j)
+    go : (p : ℕ) → d .passed ≡ p → (length (drop (d .passed) s) < k → k ≤ j → on k ≡ on j) → pick (eqb p 0) here (on k) ≡ pick (eqb p 0) here (on j)
     go zero e ih = refl
-    go (suc p) e ih = ih (omega (arith, length-drop (d .passed) s, f m (length list) s)) (omega arith)
+    go (suc p) e ih = rw (ne-eqb (suc p) 0 (λ q. omega arith)) (ih (omega (arith, length-drop (d .passed) s, f m (length list) s)) (omega arith))

@@ -11,7 +11,8 @@ use Rattle.meaning.specs.Search.{anyBelow, tabulate}
 use Rattle.meaning.specs.Hall.{zeroes, State}
 use Rattle.meaning.specs.Rule.{live}
 use Rattle.meaning.specs.Winner.{better, best, ruleAt, eligible, winner, linkFor, nextAt}
-use Rattle.meaning.specs.Labels.{names, isOn, wordOf, labelsOf, ownerWord, ownerAt, placeWith, ownersOf}
+use Rattle.meaning.specs.Labels.{names, isOn, wordOf, labelsOf}
+use Rattle.meaning.specs.Working.{ownerWord, ownerAt, placeWith, ownersOf}
 use Rattle.meaning.proofs.Members.{tab-length, tab-at}
 
 pub any-off : (P : ℕ → Bool) (n : ℕ) → ((i : ℕ) → i < n → P i ≡ false) → anyBelow n P ≡ false

@@ -17,7 +17,8 @@ use Rattle.meaning.specs.Search.{pick}
 use Rattle.meaning.specs.Hall.{zeroes, State, fresh, sourceOf, endOf}
 use Rattle.meaning.specs.Rule.{live, linkOf}
 use Rattle.meaning.specs.Winner.{ruleAt, winner, linkFor, nextAt}
-use Rattle.meaning.specs.Labels.{names, isOn, labelsOf, ownerWord, ownerAt, placeWith, ownersOf}
+use Rattle.meaning.specs.Labels.{names, isOn, labelsOf}
+use Rattle.meaning.specs.Working.{ownerWord, ownerAt, placeWith, ownersOf}
 use Rattle.meaning.specs.declared.Record.{Record}
 use Rattle.meaning.specs.declared.Record.the-variants.{Hall as hall, Link as link, Close as close, Insert as insert, Remove as remove, Loop as loop, Fate as fate, Reach as reach, Tally as tally}
 use Rattle.meaning.specs.Records.{phaseOf}

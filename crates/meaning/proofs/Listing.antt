@@ -13,10 +13,11 @@ use Rattle.meaning.specs.Atoms.{placeOf, isCut, insertAt, splitCut, spli
 use Rattle.meaning.specs.Changes.{linkOrNone, changedAt, changedPlaces, entryAt, entriesAt, overwrite}
 use Rattle.meaning.specs.Walk.{arrive, leave, move, after, stands, standsAt, goesRound, onCircle, comesTo, told, fateIn}
 use Rattle.meaning.specs.Search.{anyBelow, lowestBelow, tabulate}
-use Rattle.meaning.specs.Questions.{fateOf, loopsAt, circleAt, someNode, loopFrom, reachFrom, reachesAt, isOut, isLost, isRound, asked, leastPlace, countPlace, byPlace}
+use Rattle.meaning.specs.Questions.{fateOf, loopsAt, circleAt, someNode, loopFrom, reachFrom, reachesAt, isOut, isLost, isRound, asked}
 use Rattle.meaning.specs.Records.{number, isKind, bodyOf, recordOf, readOf, phaseOf}
-use Rattle.meaning.specs.Step.{when, ragged, clashes, added, refusal, withRule, inserted, withNodes, withLink, closed, leaves, listed, nodeOf, changes, only, answers, accepted, taken, stepFor, stepWith, stepBy, stepOf, stepIn}
-use Rattle.meaning.specs.Run.{start, Line, Ran, onward, runFrom, linesFrom, linesOf}
+use Rattle.meaning.specs.Step.{when, ragged, clashes, added, refusal, withRule, inserted, withNodes, withLink, closed, leaves, listed, nodeOf, changes, only, answers, accepted, taken, stepFor, stepWith, stepOf}
+use Rattle.meaning.specs.Working.{leastPlace, countPlace, byPlace, stepIn}
+use Rattle.meaning.specs.Run.{start, Line, Ran, runFrom, linesFrom, linesOf}
 use Rattle.meaning.proofs.Agree.{lines-in, run-in}
 use Rattle.meaning.specs.Labels.{names, isOn, wordOf, labelsOf}
 
@@ -64,7 +65,7 @@ table =
 
 -- to unfold this is to unfold every definition of the meaning but the search over addresses
 unfoldable pub opened : ℕ
-unfolding fresh sourceOf endOf linkWord live linkOf rank covers lower upper overlap ruleWord better best ruleAt eligible winner linkFor nextAt placeOf isCut insertAt splitCut splitNumber splitCount withCut linkOrNone changedAt changedPlaces entryAt entriesAt arrive leave move after stands standsAt anyBelow lowestBelow goesRound onCircle comesTo told fateIn fateOf loopsAt circleAt someNode loopFrom reachFrom reachesAt isOut isLost isRound asked leastPlace countPlace byPlace number isKind bodyOf recordOf when phaseOf ragged clashes added refusal withRule inserted withNodes withLink closed leaves listed nodeOf changes only answers accepted taken readOf stepFor stepWith stepBy stepIn onward linesFrom
+unfolding fresh sourceOf endOf linkWord live linkOf rank covers lower upper overlap ruleWord better best ruleAt eligible winner linkFor nextAt placeOf isCut insertAt splitCut splitNumber splitCount withCut linkOrNone changedAt changedPlaces entryAt entriesAt arrive leave move after stands standsAt anyBelow lowestBelow goesRound onCircle comesTo told fateIn fateOf loopsAt circleAt someNode loopFrom reachFrom reachesAt isOut isLost isRound asked leastPlace countPlace byPlace number isKind bodyOf recordOf when phaseOf ragged clashes added refusal withRule inserted withNodes withLink closed leaves listed nodeOf changes only answers accepted taken readOf stepFor stepWith stepIn linesFrom
 opened = 0
 
 by-places : linesFrom stepIn 2560 (length bytes) fresh bytes ≡ table
@@ -90,7 +91,7 @@ tally = ap (λ (ls : List Line). getD ls 9 (record { answer = Ok; written = [] }
 
 -- the label words of links 0, 1 and 2 after place 7: atoms 0, 1 and 2; atom 1; atoms 0 and 2
 labels-by-places : tabulate 3 0 (λ l. getD (labelsOf (runFrom stepIn 9 0 fresh (zeroes 2560) (take 48 bytes) .left)) (8 * l) 0) ≡ 7 ∷ 2 ∷ 5 ∷ []
-unfolding bytes opened onward overwrite runFrom names isOn wordOf tabulate labelsOf
+unfolding bytes opened overwrite runFrom names isOn wordOf tabulate labelsOf
 labels-by-places = refl
 
 pub labels : tabulate 3 0 (λ l. getD (labelsOf (runFrom stepOf 9 0 fresh (zeroes 2560) (take 48 bytes) .left)) (8 * l) 0) ≡ 7 ∷ 2 ∷ 5 ∷ []

@@ -13,7 +13,8 @@ use borrow.Author.Tests.{lt-ltb, le-ltb, eq-eqb, ne-eqb}
 use Rattle.meaning.specs.Search.{pick}
 use Rattle.meaning.specs.Hall.{State, sourceOf}
 use Rattle.meaning.specs.Winner.{nextAt}
-use Rattle.meaning.specs.Labels.{names, isOn, placeWith}
+use Rattle.meaning.specs.Labels.{names, isOn}
+use Rattle.meaning.specs.Working.{placeWith}
 use Rattle.meaning.proofs.Tables.{Numbers}
 use Rattle.meaning.proofs.Pigeon.{pigeon}
 use Rattle.meaning.proofs.Idle.{any-off}

@@ -11,7 +11,8 @@ use Rattle.meaning.specs.declared.Hall.{Hall}
 use Rattle.meaning.specs.declared.Read.{Read}
 use Rattle.meaning.specs.Search.{found}
 use Rattle.meaning.specs.Hall.{State, fresh}
-use Rattle.meaning.specs.Labels.{labelsOf, ownersOf, lowestOn}
+use Rattle.meaning.specs.Labels.{labelsOf, lowestOn}
+use Rattle.meaning.specs.Working.{ownersOf}
 use Rattle.meaning.specs.Box.{Left, stateOf, left, leftFor, leftOf, ranOf}
 use Rattle.meaning.proofs.Said.{Same, left-once}
 

@@ -15,7 +15,7 @@ use Rattle.meaning.specs.Search.{pick}
 use Rattle.meaning.specs.Hall.{top, State, sourceOf}
 use Rattle.meaning.specs.Rule.{ruleWord, live, linkOf, rank, lower, upper, covers}
 use Rattle.meaning.specs.Winner.{better, ruleAt, eligible, winner, linkFor}
-use Rattle.meaning.specs.Labels.{ownerWord}
+use Rattle.meaning.specs.Working.{ownerWord}
 use Rattle.meaning.specs.Atoms.{placeOf, isCut, withCut}
 use Rattle.meaning.specs.Changes.{linkOrNone, changedAt, changedPlaces, entryAt, entriesAt}
 use Rattle.meaning.specs.declared.Record.the-variants.{Insert as insert, Remove as remove}

@@ -20,7 +20,7 @@ use Rattle.meaning.specs.Winner.{ruleAt}
 use Rattle.meaning.specs.Questions.{loopsAt, circleAt, someNode, loopFrom, reachesAt, reachFrom, asked, byAddress}
 use Rattle.meaning.specs.declared.Read.the-variants.{Refused as Unread, Got}
 use Rattle.meaning.specs.Records.{isKind, bodyOf, recordOf, readOf, phaseOf}
-use Rattle.meaning.specs.Step.{when, ragged, clashes, added, refusal, turnedBy, only, answers, accepted, taken, stepFor, stepWith, stepBy, stepOf}
+use Rattle.meaning.specs.Step.{when, ragged, clashes, added, refusal, turnedBy, only, answers, accepted, taken, stepFor, stepWith, stepOf}
 use Rattle.meaning.specs.Run.{Came}
 use Rattle.meaning.proofs.Places.{le-or-lt}
 use Rattle.meaning.proofs.Words.{RuleFits, Fits, fits, link-of, rank-of, lower-of, upper-of, within-top}
@@ -192,7 +192,7 @@ module _ (m : State) where
   -- the number that a step refuses by, as one chain of tests
   refused-is : (room kind : ℕ) (body : List ℕ) → refusedBy (stepOf m room (kind ∷ body) .answer)
       ≡ when (ltb room 2560) 0 (when (not (isKind kind)) 1 (when (ltb (length (kind ∷ body)) (1 + bodyOf kind)) 2 (turnedBy m (recordOf (kind ∷ body)))))
-  unfolding stepOf stepBy stepWith stepFor readOf taken only accepted refusedBy when
+  unfolding stepOf stepWith stepFor readOf taken only accepted refusedBy when
   refused-is room kind body = rw (ne-eqb (length (kind ∷ body)) 0 (λ e. omega arith)) (go (ltb room 2560) (not (isKind kind)) (ltb (length (kind ∷ body)) (1 + bodyOf kind)))
     where
       r : Record
@@ -213,7 +213,7 @@ module _ (m : State) where
       go false false false = last (turnedBy m r)
 
   ended-is : (room : ℕ) → refusedBy (stepOf m room [] .answer) ≡ when (ltb room 2560) 0 none
-  unfolding stepOf stepBy stepWith stepFor readOf only refusedBy when
+  unfolding stepOf stepWith stepFor readOf only refusedBy when
   ended-is room = go (ltb room 2560)
     where
       go : (a : Bool) → refusedBy (pick a (only m 0 (Refused 0)) (only m 0 End) .answer) ≡ when a 0 none

@@ -8,7 +8,8 @@ use lib.ListN.{length, getD}
 use Rattle.meaning.specs.Search.{pick}
 use Rattle.meaning.specs.Hall.{State}
 use Rattle.meaning.specs.Winner.{winner}
-use Rattle.meaning.specs.Labels.{on, ownerWord}
+use Rattle.meaning.specs.Labels.{on}
+use Rattle.meaning.specs.Working.{ownerWord}
 use Rattle.meaning.specs.Changes.{entriesAt, overwrite}
 use Rattle.meaning.specs.Step.{listed}
 use Rattle.meaning.proofs.Sound.{Sound}

@@ -11,8 +11,9 @@ use Rattle.meaning.specs.Search.{tabulate}
 use Rattle.meaning.specs.Hall.{zeroes, fresh}
 use Rattle.meaning.specs.Labels.{names, isOn, wordOf, labelsOf}
 use Rattle.meaning.specs.Changes.{overwrite}
-use Rattle.meaning.specs.Step.{stepOf, stepIn}
-use Rattle.meaning.specs.Run.{start, Line, Ran, onward, runFrom, linesFrom, linesOf}
+use Rattle.meaning.specs.Step.{stepOf}
+use Rattle.meaning.specs.Working.{stepIn}
+use Rattle.meaning.specs.Run.{start, Line, Ran, runFrom, linesFrom, linesOf}
 use Rattle.meaning.proofs.Agree.{lines-in, run-in}
 use Rattle.meaning.proofs.Listing.{opened}
 
@@ -93,7 +94,7 @@ sides = lines-in 2560 (length (bytesOf table)) fresh (bytesOf table) start ∙ b
 
 -- the labels that these records leave, the word of each link's first 64 atoms: link 0 has atoms 1, 3, 4 and 5, link 1 atom 3, link 2 atoms 1 and 4, link 3 atom 5
 labels-by-places : tabulate 4 0 (λ l. getD (labelsOf (runFrom stepIn 50 0 fresh (zeroes 2560) (bytesOf table) .left)) (8 * l) 0) ≡ 58 ∷ 8 ∷ 18 ∷ 32 ∷ []
-unfolding bytesOf table opened onward overwrite runFrom names isOn wordOf tabulate labelsOf
+unfolding bytesOf table opened overwrite runFrom names isOn wordOf tabulate labelsOf
 labels-by-places = refl
 
 pub labels : tabulate 4 0 (λ l. getD (labelsOf (runFrom stepOf 50 0 fresh (zeroes 2560) (bytesOf table) .left)) (8 * l) 0) ≡ 58 ∷ 8 ∷ 18 ∷ 32 ∷ []

@@ -23,7 +23,7 @@ use Rattle.meaning.specs.declared.Record.{Record}
 use Rattle.meaning.specs.declared.Record.the-variants.{Link as link}
 use Rattle.meaning.specs.declared.Read.{Read}
 use Rattle.meaning.specs.Records.{recordOf, readOf, phaseOf}
-use Rattle.meaning.specs.Step.{when, refusal, leaves, only, accepted, taken, stepFor, stepWith, stepBy, stepOf}
+use Rattle.meaning.specs.Step.{when, refusal, leaves, only, accepted, taken, stepFor, stepWith, stepOf}
 use Rattle.meaning.specs.Run.{Came, start, more}
 use Rattle.meaning.proofs.Places.{le-or-lt}
 use Rattle.meaning.proofs.Constant.{Aligned}
@@ -35,8 +35,8 @@ use Rattle.meaning.proofs.Words.{Fits, fits}
 
 -- what an accepted record keeps, a step keeps
 module _ (ask : Record → Answer) (P : State → Type 0) (m : State) (room : ℕ) (s : List ℕ) where
-  pub step-keeps : ((r : Record) → Fits r → m .phase ≡ phaseOf r → refusal m r ≡ none → P (leaves m r)) → P m → P (stepBy ask m room s .left)
-  unfolding stepBy stepWith stepFor only taken accepted when
+  pub step-keeps : ((r : Record) → Fits r → m .phase ≡ phaseOf r → refusal m r ≡ none → P (leaves m r)) → P m → P (stepWith ask m room (readOf s) .left)
+  unfolding stepWith stepFor only taken accepted when
   step-keeps f p = go (ltb room 2560) (readOf s) (begins s)
     where
       r : Record

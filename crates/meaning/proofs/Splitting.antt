@@ -13,7 +13,8 @@ use Rattle.meaning.specs.Search.{anyBelow}
 use Rattle.meaning.specs.Hall.{top, State, sourceOf}
 use Rattle.meaning.specs.Winner.{ruleAt, winner}
 use Rattle.meaning.specs.Atoms.{placeOf, isCut, insertAt, splitCut, splitNumber, splitCount, withCut}
-use Rattle.meaning.specs.Labels.{on, ownerWord}
+use Rattle.meaning.specs.Labels.{on}
+use Rattle.meaning.specs.Working.{ownerWord}
 use Rattle.meaning.proofs.Places.{Order, less, same, more, order}
 use Rattle.meaning.proofs.Insert.{insert-below, insert-same, insert-over}
 use Rattle.meaning.proofs.Parted.{within, starts, ends}

@@ -18,10 +18,11 @@ use Rattle.meaning.specs.declared.Record.{Record}
 use Rattle.meaning.specs.declared.Record.the-variants.{Hall as hall, Link as link, Close as close, Insert as insert, Remove as remove, Loop as loop, Fate as fate, Reach as reach, Tally as tally}
 use Rattle.meaning.specs.Search.{pick}
 use Rattle.meaning.specs.Hall.{State}
-use Rattle.meaning.specs.Labels.{labelsOf, ownersOf}
+use Rattle.meaning.specs.Labels.{labelsOf}
+use Rattle.meaning.specs.Working.{ownersOf}
 use Rattle.meaning.specs.Changes.{entriesAt, overwrite}
 use Rattle.meaning.specs.Records.{recordOf, readOf, phaseOf, isQuestion}
-use Rattle.meaning.specs.Step.{Done, when, refusal, leaves, changes, turnedBy, only, answers, accepted, taken, stepFor, stepWith, stepBy, stepOf}
+use Rattle.meaning.specs.Step.{Done, when, refusal, leaves, changes, turnedBy, only, answers, accepted, taken, stepFor, stepWith, stepOf}
 use Rattle.meaning.specs.Box.{left, leftBy, leftOf}
 use Rattle.meaning.proofs.Words.{Fits, fits}
 use Rattle.meaning.proofs.Begins.{Begins, nothing, unread as without, whole, begins}
@@ -74,8 +75,8 @@ above-refusal m (tally v) = above-when _ 4 _ (omega arith) above-none
 -- ---- each step goes one of the five ways
 
 module _ (ask : Record → Answer) (m : State) (room : ℕ) (s : List ℕ) where
-  pub stepped : Stepped ask m room s (stepBy ask m room s)
-  unfolding stepBy stepWith stepFor taken
+  pub stepped : Stepped ask m room s (stepWith ask m room (readOf s))
+  unfolding stepWith stepFor taken
   stepped = go (ltb room 2560) refl (readOf s) refl (begins s)
     where
       last : (r : Record) (n : ℕ) → 2560 ≤ room → readOf s ≡ Got r n → 0 < n → (o : Option ℕ) → turnedBy m r ≡ o → Above (turnedBy m r) → Stepped ask m room s (taken ask m n r o)
@@ -90,7 +91,7 @@ module _ (ask : Record → Answer) (m : State) (room : ℕ) (s : List ℕ) where
           last _ _ (ltb-false room 2560 e) g (omega arith) (turnedBy m (recordOf s)) refl (above-when _ 3 _ (omega arith) (above-refusal m (recordOf s)))
 
   -- the way of an accepted record: room for 512 entries, bytes enough, in its order, and refused by no check
-  pub accepts : (r : Record) (n : ℕ) → 2560 ≤ room → readOf s ≡ Got r n → m .phase ≡ phaseOf r → refusal m r ≡ none → stepBy ask m room s ≡ accepted ask m n r
+  pub accepts : (r : Record) (n : ℕ) → 2560 ≤ room → readOf s ≡ Got r n → m .phase ≡ phaseOf r → refusal m r ≡ none → stepWith ask m room (readOf s) ≡ accepted ask m n r
   unfolding when
   accepts r n h g p e = go _ stepped
     where
@@ -105,7 +106,7 @@ module _ (ask : Record → Answer) (m : State) (room : ℕ) (s : List ℕ) where
       go d (took r′ n′ l q pos f) = let x : r′ ≡ r = cc in let y : n′ ≡ n = cc in rw (x, y)
 
   -- the way of a record that is refused by a number above 2
-  pub refuses : (r : Record) (n k : ℕ) → 2560 ≤ room → readOf s ≡ Got r n → turnedBy m r ≡ some k → stepBy ask m room s ≡ only m n (Refused k)
+  pub refuses : (r : Record) (n k : ℕ) → 2560 ≤ room → readOf s ≡ Got r n → turnedBy m r ≡ some k → stepWith ask m room (readOf s) ≡ only m n (Refused k)
   refuses r n k h g e = go _ stepped
     where
       go : (d : Done) → Stepped ask m room s d → d ≡ only m n (Refused k)

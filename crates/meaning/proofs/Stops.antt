@@ -7,13 +7,15 @@ use mathlib.Core.Option.{Option, none, some}
 use mathlib.Core.List.{List}
 use Prim.Native.Nat.{ℕ, zero, suc, _+_, _-_, _*_, _≤_, _<_}
 use native.Mathlib.Omega.{arith}
+use borrow.Author.Tests.{ne-eqb}
+use lib.Dec.{eqb}
 use lib.ListN.{length, getD, drop, length-append, length-drop, List·getD-append}
 use lib.Seq.{drop-drop, getD-append-add, getD-drop}
 use Rattle.meaning.specs.declared.Answer.{Answer}
 use Rattle.meaning.specs.declared.Answer.the-variants.{End, Refused, Ok, Changed, Loop, NoLoop, Went, Yes, No, Tally}
 use Rattle.meaning.specs.declared.Record.{Record}
 use Rattle.meaning.specs.declared.Record.the-variants.{Hall as hall, Link as link, Close as close, Insert as insert, Remove as remove, Loop as loop, Fate as fate, Reach as reach, Tally as tally}
-use Rattle.meaning.specs.Search.{lowestBelow}
+use Rattle.meaning.specs.Search.{pick, lowestBelow}
 use Rattle.meaning.specs.Hall.{top, State, fresh, sourceOf}
 use Rattle.meaning.specs.Rule.{linkOf}
 use Rattle.meaning.specs.Winner.{ruleAt}
@@ -21,7 +23,7 @@ use Rattle.meaning.specs.Changes.{overwrite}
 use Rattle.meaning.specs.Questions.{loopsAt, circleAt, someNode, loopFrom, reachesAt, reachFrom, asked, byAddress}
 use Rattle.meaning.specs.Records.{readOf, placeAfter}
 use Rattle.meaning.specs.Step.{Done, leaves, listed, changes, only, answers, accepted, stepOf}
-use Rattle.meaning.specs.Run.{Ran, onward, runFrom, runOf, Came, start, more}
+use Rattle.meaning.specs.Run.{Ran, runFrom, runOf, Came, start, more}
 use Rattle.meaning.proofs.Sound.{Sound}
 use Rattle.meaning.proofs.Kept.{sound}
 use Rattle.meaning.proofs.Ends.{changed-few, entries-length, passed-few}
@@ -172,7 +174,7 @@ unfolding stepOf
 few m room s = passed-few (byAddress m) m room s
 
 run-from : (k n : ℕ) (m : State) (list s : List ℕ) → length s < k → Runs n m list s (runFrom stepOf k n m list s)
-unfolding runFrom onward
+unfolding runFrom
 run-from zero n m list s h = absurd (omega arith)
 run-from (suc k) n m list s h = go (d .passed) refl (run-from k (n + 1) (d .left) (overwrite (d .written) list) (drop (d .passed) s))
   where
@@ -190,9 +192,9 @@ run-from (suc k) n m list s h = go (d .passed) refl (run-from k (n + 1) (d .left
         let q = quiet m (length list) s (stop-quiet _ (stays m (length list) s .0 e)) in
         rw (q .state, q .list) (unfold overwrite in refl)
 
-    go : (p : ℕ) → d .passed ≡ p → (length (drop (d .passed) s) < k → Runs (n + 1) (d .left) (overwrite (d .written) list) (drop (d .passed) s) on) → Runs n m list s (onward p here on)
+    go : (p : ℕ) → d .passed ≡ p → (length (drop (d .passed) s) < k → Runs (n + 1) (d .left) (overwrite (d .written) list) (drop (d .passed) s) on) → Runs n m list s (pick (eqb p 0) here on)
     go zero e f = rw (plain e) (stop n m list s e)
-    go (suc p) e f = next n m list s on (omega arith) (f (omega (arith, length-drop (d .passed) s, few m (length list) s)))
+    go (suc p) e f = rw (ne-eqb (suc p) 0 (λ q. omega arith)) (next n m list s on (omega arith) (f (omega (arith, length-drop (d .passed) s, few m (length list) s))))
 
 -- THE LAW: the run over a whole stream is that run, from a fresh box
 pub runs : (list s : List ℕ) → Runs 0 fresh list s (runOf list s)

@@ -21,7 +21,7 @@ use Rattle.meaning.specs.Rule.{ruleWord}
 use Rattle.meaning.specs.Atoms.{withCut}
 use Rattle.meaning.specs.Questions.{byAddress}
 use Rattle.meaning.specs.Records.{recordOf, readOf, phaseOf, isQuestion}
-use Rattle.meaning.specs.Step.{Done, refusal, withRule, inserted, leaves, turnedBy, only, answers, accepted, taken, stepFor, stepWith, stepBy, stepOf}
+use Rattle.meaning.specs.Step.{Done, refusal, withRule, inserted, leaves, turnedBy, only, answers, accepted, taken, stepFor, stepWith, stepOf}
 use Rattle.meaning.proofs.Places.{le-or-lt}
 use Rattle.meaning.proofs.Sound.{when-none}
 use Rattle.meaning.proofs.Steps.{Stepped, short, ended, unread, turned, took, stepped}
@@ -71,7 +71,7 @@ same-test i j k f = go (le-or-lt k i) (le-or-lt k j)
 
 -- of the room that is lent a step sees only whether it is enough
 pub any-room : (m : State) (room room′ : ℕ) (s : List ℕ) → ((room < 5 * 512) ↔ (room′ < 5 * 512)) → stepOf m room s ≡ stepOf m room′ s
-unfolding stepOf stepBy stepWith
+unfolding stepOf stepWith
 any-room m room room′ s f = rw (same-test room room′ 2560 f)
 
 -- the answers of a step that leaves all as it was before a record is taken
@@ -83,7 +83,7 @@ pub data Unmoved : Answer → Type 0 where
 module _ (R : Done → Done → Type 0) (m n : State) (room : ℕ) (s : List ℕ) where
   pub both-step : ((k : ℕ) (a : Answer) → Unmoved a → R (only m k a) (only n k a)) → turnedBy m (recordOf s) ≡ turnedBy n (recordOf s)
       → ((k : ℕ) → turnedBy n (recordOf s) ≡ none → R (accepted (byAddress m) m k (recordOf s)) (accepted (byAddress n) n k (recordOf s))) → R (stepOf m room s) (stepOf n room s)
-  unfolding stepOf stepBy stepWith stepFor taken
+  unfolding stepOf stepWith stepFor taken
   both-step f e g = go (ltb room 2560) (readOf s) (begins s)
     where
       last : (k : ℕ) (o : Option ℕ) → turnedBy n (recordOf s) ≡ o → R (taken (byAddress m) m k (recordOf s) o) (taken (byAddress n) n k (recordOf s) o)
@@ -109,10 +109,10 @@ reads-nothing s e = go (readOf s) (begins s) e
 
 -- THE LAW: the answer is "end" exactly when the list is long enough and no byte is left
 pub end-is : (m : State) (room : ℕ) (s : List ℕ) → (stepOf m room s .answer ≡ End) ↔ ((5 * 512 ≤ room) × (length s ≡ 0))
-unfolding stepOf stepBy stepWith stepFor readOf only accepted
+unfolding stepOf stepWith stepFor readOf only accepted
 end-is m room s = (λ e. go _ (stepped _ m room s) refl e, λ h. rw (le-ltb room 2560 (h .0), eq-eqb (length s) 0 (h .1)))
   where
-    go : (d : Done) → Stepped (byAddress m) m room s d → stepBy (byAddress m) m room s ≡ d → d .answer ≡ End → (5 * 512 ≤ room) × (length s ≡ 0)
+    go : (d : Done) → Stepped (byAddress m) m room s d → stepWith (byAddress m) m room (readOf s) ≡ d → d .answer ≡ End → (5 * 512 ≤ room) × (length s ≡ 0)
     go d (short h) q e = let z : _≡_ {A = ℕ} 0 1 = cc in absurd (omega arith)
     go d (ended h r) q e = (h, reads-nothing s r)
     go d (unread k h r o) q e = let z : _≡_ {A = ℕ} 0 1 = cc in absurd (omega arith)

@@ -16,7 +16,7 @@ use Rattle.meaning.specs.Changes.{entryAt, entriesAt}
 use Rattle.meaning.specs.Atoms.{withCut}
 use Rattle.meaning.specs.Questions.{byAddress}
 use Rattle.meaning.specs.Records.{readOf, phaseOf}
-use Rattle.meaning.specs.Step.{Done, when, refusal, withRule, inserted, leaves, nodeOf, changes, only, answers, accepted, stepBy, stepOf}
+use Rattle.meaning.specs.Step.{Done, when, refusal, withRule, inserted, leaves, nodeOf, changes, only, answers, accepted, stepWith, stepOf}
 use Rattle.meaning.specs.Run.{Came}
 use Rattle.meaning.proofs.Words.{Fits, Sized}
 use Rattle.meaning.proofs.Sound.{Sound, when-none}
@@ -65,7 +65,7 @@ module _ (m : State) (c : Came m) (room : ℕ) (s s′ : List ℕ) (r l p n t i 
   unfolding stepOf phaseOf only
   took-it = go _ (stepped (byAddress m) m room s) refl ok
     where
-      go : (d : Done) → Stepped (byAddress m) m room s d → stepBy (byAddress m) m room s ≡ d → d .answer ≡ Changed j → Took
+      go : (d : Done) → Stepped (byAddress m) m room s d → stepWith (byAddress m) m room (readOf s) ≡ d → d .answer ≡ Changed j → Took
       go d (short h) q e = let z : _≡_ {A = ℕ} 0 1 = cc in absurd (omega arith)
       go d (ended h g) q e = let z : _≡_ {A = ℕ} 0 1 = cc in absurd (omega arith)
       go d (unread k h g o) q e = let z : _≡_ {A = ℕ} 0 1 = cc in absurd (omega arith)

@@ -8,7 +8,8 @@ use Rattle.meaning.specs.declared.Answer.{Answer}
 use Rattle.meaning.specs.declared.Hall.{Hall}
 use Rattle.meaning.specs.declared.Read.{Read}
 use Rattle.meaning.specs.Hall.{State}
-use Rattle.meaning.specs.Labels.{labelsOf, ownersOf}
+use Rattle.meaning.specs.Labels.{labelsOf}
+use Rattle.meaning.specs.Working.{ownersOf}
 use Rattle.meaning.specs.Changes.{overwrite}
 use Rattle.meaning.specs.Questions.{byAddress}
 use Rattle.meaning.specs.Step.{Done, stepWith, stepOf}

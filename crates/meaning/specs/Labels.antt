@@ -1,5 +1,5 @@
--- The label of a link: the set of atoms whose winner at the link's source names the link; and each atom's owners: its winner at each node.
--- Both are determined by the rest of the state. Assumes nothing: these are definitions.
+-- The label of a link: the set of atoms whose winner at the link's source names the link. It is determined by the rest of the state.
+-- Assumes nothing: these are definitions.
 use mathlib.Core.List.{List}
 use mathlib.Core.Bool.{Bool, false, _&&_}
 use mathlib.Core.Option.{Option, none, some}
@@ -8,8 +8,7 @@ use lib.Dec.{ltb, eqb}
 use lib.ListN.{getD}
 use Rattle.meaning.specs.Search.{pick, anyBelow, lowestBelow, countBelow, tabulate}
 use Rattle.meaning.specs.Hall.{State, sourceOf}
-use Rattle.meaning.specs.Rule.{linkOf}
-use Rattle.meaning.specs.Winner.{ruleAt, winner, nextAt}
+use Rattle.meaning.specs.Winner.{nextAt}
 
 unfoldable pub names : Option ℕ → ℕ → Bool
 names none l = false
@@ -42,20 +41,3 @@ howMany label l = pick (ltb l 64) (countBelow 512 (on label l)) 0
 
 unfoldable pub lowestOn : List ℕ → ℕ → Option ℕ
 lowestOn label l = pick (ltb l 64) (lowestBelow 512 (on label l)) none
-
--- rule w as an owner, 0 for none: its link, then its number, counted from 1
-unfoldable pub ownerWord : State → ℕ → ℕ
-ownerWord m w = pick (ltb w 256) (linkOf (ruleAt m w) * 512 + (w + 1)) 0
-
--- the winner at node v of the atom at a place, or none
-unfoldable pub ownerAt : State → ℕ → Option ℕ → ℕ
-ownerAt m v none = 0
-ownerAt m v (some p) = ownerWord m (winner m v (getD (m .cut) p 0))
-
--- the place of atom k
-unfoldable pub placeWith : State → ℕ → Option ℕ
-placeWith m k = lowestBelow (m .atoms) (λ p. eqb (getD (m .number) p 0) k)
-
--- the owner of atom k at node v has the word 16 k + v
-unfoldable pub ownersOf : State → List ℕ
-ownersOf m = tabulate 8192 0 (λ i. ownerAt m (i % 16) (placeWith m (i / 16)))

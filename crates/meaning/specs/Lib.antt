@@ -13,4 +13,7 @@ pub mod Records
 pub mod Step
 pub mod Run
 pub mod Answers
+-- how the box works things out, which need not be believed
+pub mod Working
+-- and the box as it is lent
 pub mod Box

@@ -1,16 +1,14 @@
 -- The questions, over addresses: fate, loop, reach and tally. Assumes nothing: these are definitions.
-use mathlib.Core.List.{List}
 use mathlib.Core.Bool.{Bool, true, false}
 use mathlib.Core.Option.{Option, none, some}
-use Prim.Native.Nat.{ℕ, zero, suc, _+_, _-_}
-use lib.ListN.{getD}
+use Prim.Native.Nat.{ℕ}
 use Rattle.meaning.specs.declared.Record.{Record}
 use Rattle.meaning.specs.declared.Record.the-variants.{Hall as hall, Link as link, Close as close, Insert as insert, Remove as remove, Loop as loop, Fate as fate, Reach as reach, Tally as tally}
 use Rattle.meaning.specs.declared.Answer.{Answer}
 use Rattle.meaning.specs.declared.Answer.the-variants.{Ok, Loop, NoLoop, Went, Yes, No, Tally}
 use Rattle.meaning.specs.declared.Fate.{Fate}
 use Rattle.meaning.specs.declared.Fate.the-variants.{Out, Lost, Round}
-use Rattle.meaning.specs.Search.{pick, orElse, anyBelow, lowestBelow, countBelow}
+use Rattle.meaning.specs.Search.{anyBelow, lowestBelow, countBelow}
 use Rattle.meaning.specs.Hall.{top, State, endOf}
 use Rattle.meaning.specs.Winner.{nextAt}
 use Rattle.meaning.specs.Walk.{goesRound, onCircle, comesTo, fateIn}
@@ -75,15 +73,3 @@ module _ (least : (ℕ → Bool) → Option ℕ) (count : (ℕ → Bool) → ℕ
 -- THE MEANING: over all addresses
 unfoldable pub byAddress : State → Record → Answer
 byAddress m = asked (lowestBelow top) (countBelow top) m
-
--- the same over the places, each by its lower end and its width: what can be computed, and by a law the same
-unfoldable pub leastPlace : List ℕ → ℕ → (ℕ → Bool) → Option ℕ
-leastPlace cut zero P = none
-leastPlace cut (suc p) P = orElse (leastPlace cut p P) (pick (P (getD cut p 0)) (some (getD cut p 0)) none)
-
-unfoldable pub countPlace : List ℕ → ℕ → (ℕ → Bool) → ℕ
-countPlace cut zero P = 0
-countPlace cut (suc p) P = countPlace cut p P + pick (P (getD cut p 0)) (getD cut (suc p) 0 - getD cut p 0) 0
-
-unfoldable pub byPlace : State → Record → Answer
-byPlace m = asked (leastPlace (m .cut) (m .atoms)) (countPlace (m .cut) (m .atoms)) m

@@ -1,9 +1,11 @@
 -- A run over a whole stream, and which states come from a fresh one by records. Assumes nothing: these are definitions.
 use mathlib.Core.List.{List, [], _∷_}
 use Prim.Native.Nat.{ℕ, zero, suc, _+_}
+use lib.Dec.{eqb}
 use lib.ListN.{length, drop}
 use Rattle.meaning.specs.declared.Answer.{Answer}
 use Rattle.meaning.specs.declared.Answer.the-variants.{End}
+use Rattle.meaning.specs.Search.{pick}
 use Rattle.meaning.specs.Hall.{State, fresh}
 use Rattle.meaning.specs.Changes.{overwrite}
 use Rattle.meaning.specs.Step.{Done, stepOf}
@@ -15,24 +17,19 @@ pub record Ran : Type 0 where
   pub left : State
   pub list : List ℕ
 
--- where no byte is passed the run stops with the first, else it goes on to the second
-unfoldable pub onward : {A : Type 0} → ℕ → A → A → A
-onward zero x y = x
-onward (suc n) x y = y
-
 -- a line of the listing: the answer, and the words written
 pub record Line : Type 0 where
   pub answer : Answer
   pub written : List ℕ
 
 module _ (step : State → ℕ → List ℕ → Done) where
-  -- from the state m after n records, over the bytes s, with a lent list; k bounds the steps
+  -- from the state m after n records, over the bytes s, with a lent list; it stops where no byte is passed, and k bounds the steps
   unfoldable pub runFrom : ℕ → ℕ → State → List ℕ → List ℕ → Ran
   runFrom zero n m list s = record { past = n; stopped = End; left = m; list = list }
   runFrom (suc k) n m list s =
       let d = step m (length list) s in
       let more = runFrom k (n + 1) (d .left) (overwrite (d .written) list) (drop (d .passed) s) in
-      onward (d .passed) (record { past = n; stopped = d .answer; left = d .left; list = overwrite (d .written) list }) more
+      pick (eqb (d .passed) 0) (record { past = n; stopped = d .answer; left = d .left; list = overwrite (d .written) list }) more
 
   -- a line for each record that is gone past, where the lent list has room words
   unfoldable pub linesFrom : ℕ → ℕ → State → List ℕ → List Line
@@ -41,7 +38,7 @@ module _ (step : State → ℕ → List ℕ → Done) where
       let d = step m room s in
       let more = linesFrom room k (d .left) (drop (d .passed) s) in
       let lines : List Line = record { answer = d .answer; written = d .written } ∷ more in
-      onward (d .passed) [] lines
+      pick (eqb (d .passed) 0) [] lines
 
 -- THE MEANING of a whole stream: each record takes a byte at least, so the bytes bound the steps
 unfoldable pub runOf : List ℕ → List ℕ → Ran

@@ -20,7 +20,7 @@ use Rattle.meaning.specs.Rule.{ruleWord, live, linkOf, rank, span, lower
 use Rattle.meaning.specs.Winner.{ruleAt}
 use Rattle.meaning.specs.Atoms.{isCut, withCut}
 use Rattle.meaning.specs.Changes.{changedPlaces, entriesAt}
-use Rattle.meaning.specs.Questions.{byAddress, byPlace}
+use Rattle.meaning.specs.Questions.{byAddress}
 use Rattle.meaning.specs.Records.{readOf, phaseOf, isQuestion}
 
 -- n where the test holds, else what the next checks say
@@ -219,19 +219,11 @@ module _ (ask : Record → Answer) where
 
   -- where the lent list has room words: an entry takes 5
   unfoldable pub stepWith : State → ℕ → Read → Done
-  stepWith m room x = pick (ltb room 2560) (only m 0 (Refused 0)) (stepFor m x)
+  stepWith m room x = pick (ltb room (5 * 512)) (only m 0 (Refused 0)) (stepFor m x)
 
-  -- the next record of the bytes s
-  unfoldable pub stepBy : State → ℕ → List ℕ → Done
-  stepBy m room s = stepWith m room (readOf s)
-
--- THE MEANING of one step
+-- THE MEANING of one step: the next record of the bytes s
 unfoldable pub stepOf : State → ℕ → List ℕ → Done
-stepOf m = stepBy (byAddress m) m
-
--- and over places, as code answers
-unfoldable pub stepIn : State → ℕ → List ℕ → Done
-stepIn m = stepBy (byPlace m) m
+stepOf m room s = stepWith (byAddress m) m room (readOf s)
 
 -- the answer to a question alone; a record that asks nothing is out of its order among questions
 unfoldable pub replyTo : State → Record → Answer

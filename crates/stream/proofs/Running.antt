@@ -5,14 +5,18 @@ use Prim.Native.Nat.{ℕ, zero, suc, _+_, _-_, _≤_, _<_}
 use native.Mathlib.Numerals.{add-one}
 use native.Mathlib.Omega.{arith}
 use lib.ListN.{length, take, drop, length-drop}
+use borrow.Author.Tests.{ne-eqb}
+use lib.Dec.{eqb}
 use lib.Seq.{take-all, drop-drop}
 use Rattle.meaning.specs.declared.Answer.{Answer}
+use Rattle.meaning.specs.Search.{pick}
 use Rattle.meaning.specs.Hall.{State, fresh}
-use Rattle.meaning.specs.Labels.{labelsOf, ownersOf}
+use Rattle.meaning.specs.Labels.{labelsOf}
+use Rattle.meaning.specs.Working.{ownersOf}
 use Rattle.meaning.specs.Changes.{overwrite}
 use Rattle.meaning.specs.Questions.{byAddress}
 use Rattle.meaning.specs.Step.{Done, stepOf}
-use Rattle.meaning.specs.Run.{Ran, onward, runFrom, runOf, Came, start}
+use Rattle.meaning.specs.Run.{Ran, runFrom, runOf, Came, start}
 use Rattle.meaning.specs.Box.{Held, Left, left, leftBy, leftOf, ranBy, ranOf}
 use Rattle.meaning.proofs.Ends.{passed-few}
 use Rattle.meaning.proofs.Boxes.{left-passed, left-state, left-list, held-after}
@@ -54,7 +58,7 @@ module _ (bytes list₀ : List ℕ) (m : State) (label owner list : List ℕ) (a
   unfolding d
   here = record { past = past; stopped = d .answer; left = d .left; list = overwrite (d .written) list }
 
-  goes : onward (d .passed) here on ≡ runOf list₀ bytes
+  goes : pick (eqb (d .passed) 0) here on ≡ runOf list₀ bytes
   unfolding runFrom d on here
   goes = r .rest
 
@@ -64,14 +68,14 @@ module _ (bytes list₀ : List ℕ) (m : State) (label owner list : List ℕ) (a
 
   -- it stops where no byte is passed
   pub running-stops : n ≡ 0 → left a past m′ label′ owner′ list′ ≡ ranOf list₀ bytes
-  unfolding leftOf leftBy ranOf ranBy d on here onward
+  unfolding leftOf leftBy ranOf ranBy d on here
   running-stops z =
       ap (λ (x : Left). record { answer = x .answer; passed = past; state = x .state; label = x .label; owner = x .owner; list = x .list }) e
-      ∙ ap ranBy (ap (λ (x : ℕ). onward x here on) (sym z ∙ passes) ∙ goes)
+      ∙ ap ranBy (ap (λ (x : ℕ). pick (eqb x 0) here on) (sym z ∙ passes) ∙ goes)
 
   -- else it goes on behind the record
   pub running-goes : (n ≡ 0 → ⊥) → Running bytes list₀ m′ label′ owner′ list′ (at + n) (past + 1)
-  unfolding stepOf onward d on here
+  unfolding stepOf d on here
   running-goes z = record {
     held = held-after m m′ label′ owner′ list list′ (drop at bytes) a n e label owner (r .held);
     inside = omega (arith, few, r .inside);
@@ -93,6 +97,6 @@ module _ (bytes list₀ : List ℕ) (m : State) (label owner list : List ℕ) (a
       behind : drop (at + n) bytes ≡ drop (d .passed) (drop at bytes)
       behind = ap (λ (x : ℕ). drop (at + x) bytes) passes ∙ sym (drop-drop (d .passed) at bytes)
 
-      moved : (p : ℕ) → n ≡ p → onward p here on ≡ on
+      moved : (p : ℕ) → n ≡ p → pick (eqb p 0) here on ≡ on
       moved zero f = absurd (z f)
-      moved (suc p) f = refl
+      moved (suc p) f = rw (ne-eqb (suc p) 0 (λ q. omega arith))

@@ -6,7 +6,8 @@ ghost use mathlib.Core.Path.{_≡_};
 ghost use Prim.Native.Nat.{ℕ, _+_, _<_, _≤_};
 ghost use lib.ListN.{length};
 ghost use Rattle.meaning.specs.Hall.{zeroes, fresh};
-ghost use Rattle.meaning.specs.Labels.{labelsOf, ownersOf};
+ghost use Rattle.meaning.specs.Labels.{labelsOf};
+ghost use Rattle.meaning.specs.Working.{ownersOf};
 ghost use Rattle.meaning.specs.Box.{stateOf, left, ranOf};
 
 // Makes all words 0.

@@ -14,7 +14,7 @@ use Rattle.meaning.specs.Search.{pick}
 use Rattle.meaning.specs.Hall.{State, sourceOf}
 use Rattle.meaning.specs.Rule.{linkOf, rank, covers}
 use Rattle.meaning.specs.Winner.{better, ruleAt, eligible, winner, linkFor, nextAt}
-use Rattle.meaning.specs.Labels.{ownerWord}
+use Rattle.meaning.specs.Working.{ownerWord}
 use Rattle.meaning.specs.Changes.{linkOrNone, changedAt, entryAt, entriesAt, overwrite}
 use Rattle.meaning.specs.Atoms.{withCut}
 use Rattle.meaning.specs.Step.{withRule, listed}
