@@ -24,7 +24,7 @@ isKind k = ltb 0 k && leb k 9
 unfoldable pub bodyOf : ℕ → ℕ
 bodyOf k = getD (0 ∷ 1 ∷ 3 ∷ 0 ∷ 10 ∷ 2 ∷ 0 ∷ 5 ∷ 2 ∷ 1 ∷ []) k 0
 
--- the record that s begins with, by its kind
+-- the record that s begins with, by its kind. Kinds 0 and above 9 are turned away before any record is looked for (readOf), so what stands for them is never read
 unfoldable pub recordOf : List ℕ → Record
 recordOf s =
     getD

@@ -25,8 +25,7 @@ use Rattle.meaning.specs.Records.{readOf, phaseOf, isQuestion}
 
 -- n where the test holds, else what the next checks say
 unfoldable pub when : Bool → ℕ → Option ℕ → Option ℕ
-when true n o = some n
-when false n o = o
+when t n o = pick t (some n) o
 
 -- ---- what is turned away
 
