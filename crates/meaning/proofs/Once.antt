@@ -4,17 +4,23 @@ use mathlib.Core.Path.{_≡_, sym, ap, _∙_}
 use mathlib.Core.List.{List}
 use mathlib.Core.Option.{Option, none, some}
 use Prim.Native.Nat.{ℕ}
+use lib.ListN.{drop}
 use Rattle.meaning.specs.declared.Answer.{Answer}
 use Rattle.meaning.specs.declared.Found.{Found}
 use Rattle.meaning.specs.declared.Found.the-variants.{At, Nothing}
 use Rattle.meaning.specs.declared.Hall.{Hall}
+use Rattle.meaning.specs.declared.Placed.{Placed}
 use Rattle.meaning.specs.declared.Read.{Read}
+use Rattle.meaning.specs.declared.Record.{Record}
 use Rattle.meaning.specs.Search.{found}
 use Rattle.meaning.specs.Hall.{State, fresh}
 use Rattle.meaning.specs.Labels.{labelsOf, lowestOn}
 use Rattle.meaning.specs.Working.{ownersOf}
+use Rattle.meaning.specs.Records.{readOf, placedAt}
+use Rattle.meaning.specs.Step.{replyTo}
+use Rattle.meaning.specs.Answers.{said, saidRead, saidPlaced}
 use Rattle.meaning.specs.Box.{Left, stateOf, left, leftFor, leftOf, ranOf}
-use Rattle.meaning.proofs.Said.{Same, left-once}
+use Rattle.meaning.proofs.Said.{Same, said-once, read-once, placed-once, left-once}
 
 -- what the box holds when a function returns: the struct and the tables
 pub record Lent : Type 0 where
@@ -96,7 +102,23 @@ finds Nothing = λ j. Nothing
 pub lowest-on-once : (label : List ℕ) (l : ℕ) (x y : Found) → found x ≡ lowestOn label l → found y ≡ lowestOn label l → x ≡ y
 lowest-on-once label l x y p q = sym (finds x) ∙ ap foundAs (p ∙ sym q) ∙ finds y
 
--- every other public function ensures an equation for its whole result: `reply`, `atom_of`, `source_of`, `atoms_on`, `read_record`, `read_at`, `read_through`;
--- and `reader_over` and `next_record` one for each field of what they leave
+-- `questions::reply` on the state m: what was said determines the answer
+pub reply-once : (m : State) (what : Record) (x y : Answer) → said x ≡ said (replyTo m what) → said y ≡ said (replyTo m what) → x ≡ y
+reply-once m what x y p q = said-once x y (p ∙ sym q)
+
+-- `records::read_record` on the bytes s, and `records::read_at` on those from a place on
+pub read-record-once : (s : List ℕ) (x y : Read) → saidRead x ≡ saidRead (readOf s) → saidRead y ≡ saidRead (readOf s) → x ≡ y
+read-record-once s x y p q = read-once x y (p ∙ sym q)
+
+pub read-at-once : (stream : List ℕ) (at : ℕ) (x y : Read) → saidRead x ≡ saidRead (readOf (drop at stream)) → saidRead y ≡ saidRead (readOf (drop at stream)) → x ≡ y
+read-at-once stream at = read-record-once (drop at stream)
+
+-- `records::read_through`
+pub read-through-once : (stream : List ℕ) (at : ℕ) (x y : Placed) → saidPlaced x ≡ saidPlaced (placedAt stream at) → saidPlaced y ≡ saidPlaced (placedAt stream at) → x ≡ y
+read-through-once stream at x y p q = placed-once x y (p ∙ sym q)
+
+-- `records::next_record` and `records::reader_over` leave a reader: theirs stand in that crate's proofs/Once
+
+-- every other public function ensures an equation for its whole result: `atom_of`, `source_of`, `atoms_on`
 pub equation-once : {A : Type 0} (specified x y : A) → x ≡ specified → y ≡ specified → x ≡ y
 equation-once specified x y p q = p ∙ sym q

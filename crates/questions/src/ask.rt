@@ -10,6 +10,7 @@ ghost use Rattle.meaning.specs.Questions.{fateOf, isOut, isLost, byAddress};
 ghost use Rattle.meaning.specs.declared.Fate.{Fate as Went};
 ghost use Rattle.meaning.specs.Box.{stateOf, Held};
 ghost use Rattle.meaning.specs.Step.{replyTo};
+ghost use Rattle.meaning.specs.Answers.{said};
 ghost use Rattle.meaning.specs.declared.Record.the-variants.{Loop as askLoop, Reach as askReach, Tally as askTally};
 ghost use Rattle.meaning.specs.Hall.{top};
 ghost use Rattle.meaning.proofs.Owners.{Words, Whole};
@@ -188,7 +189,7 @@ pub fn reply(
     what: Record,
 ) -> Answer
     requires { ⌜ Held (stateOf h (now link) (now rule) (now cut) (now number)) (now label) (now owner) ⌝ }
-    ensures { λ r. ⌜ r ≡ replyTo (stateOf h (now (link .entry)) (now (rule .entry)) (now (cut .entry)) (now (number .entry))) what ⌝ }
+    ensures { λ r. ⌜ said r ≡ said (replyTo (stateOf h (now (link .entry)) (now (rule .entry)) (now (cut .entry)) (now (number .entry))) what) ⌝ }
 {
     if h.phase != 2 {
         return Answer::Refused(3);

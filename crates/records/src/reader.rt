@@ -3,7 +3,9 @@ use meaning::Placed;
 use meaning::Read;
 ghost use mathlib.Core.Path.{_≡_};
 ghost use lib.ListN.{drop};
-ghost use Rattle.meaning.specs.Records.{readOf, placeAfter, placedAt};
+ghost use Rattle.meaning.specs.Records.{readOf, placedAt};
+ghost use Rattle.meaning.specs.Answers.{saidRead, saidPlaced};
+ghost use Rattle.records.specs.Readers.{next, nextOf};
 
 // The caller's stream and a place in it.
 pub struct Reader<'a> {
@@ -13,7 +15,7 @@ pub struct Reader<'a> {
 
 // What the rest of a stream from a place on begins with. Past the end there is no byte left.
 pub fn read_at(bytes: &[u8], at: usize) -> Read
-    ensures { λ r. ⌜ r ≡ readOf (drop at (now (bytes .entry))) ⌝ }
+    ensures { λ r. ⌜ saidRead r ≡ saidRead (readOf (drop at (now (bytes .entry)))) ⌝ }
 {
     if bytes.len() < at {
         return Read::End;
@@ -39,15 +41,14 @@ fn take_at(bytes: &[u8], at: usize) -> Placed
 
 // A reader over a stream, at a place of it.
 pub fn reader_over<'a>(bytes: &'a [u8], at: usize) -> Reader<'a>
-    ensures { λ r. ⌜ (r .bytes ≡ bytes .entry) × (r .at ≡ at) ⌝ }
+    ensures { λ r. ⌜ r ≡ record { bytes = bytes .entry; at = at } ⌝ }
 {
     Reader { bytes, at }
 }
 
 // Reads the next record, and moves the reader's place behind it; at the end and at a refusal the place stays.
 pub fn next_record<'s, 'a>(r: &'s mut Reader<'a>) -> Read
-    ensures { λ x. ⌜ (x ≡ readOf (drop (now (r .entry) .at) (now (now (r .entry) .bytes))))
-        × (now (r .exit) .bytes ≡ now (r .entry) .bytes) × (now (r .exit) .at ≡ placeAfter (now (r .entry) .at) x) ⌝ }
+    ensures { λ x. ⌜ next x (now (r .exit)) ≡ nextOf (now (r .entry)) ⌝ }
 {
     let taken = take_at(r.bytes, r.at);
     r.at = taken.place;
@@ -56,7 +57,7 @@ pub fn next_record<'s, 'a>(r: &'s mut Reader<'a>) -> Read
 
 // What a reader over a stream reads next at a place, and the place that it then has: for callers that hold no reader.
 pub fn read_through(bytes: &[u8], at: usize) -> Placed
-    ensures { λ r. ⌜ r ≡ placedAt (now (bytes .entry)) at ⌝ }
+    ensures { λ r. ⌜ saidPlaced r ≡ saidPlaced (placedAt (now (bytes .entry)) at) ⌝ }
 {
     let mut reader = reader_over(bytes, at);
     let read = next_record(&mut reader);

@@ -5,6 +5,7 @@ ghost use mathlib.Core.Path.{_≡_};
 ghost use Prim.Native.Nat.{ℕ, _+_, _<_, _≤_};
 ghost use lib.ListN.{length, getD};
 ghost use Rattle.meaning.specs.Records.{number, bodyOf, recordOf, readOf};
+ghost use Rattle.meaning.specs.Answers.{saidRead};
 ghost use Rattle.records.specs.Kinds.{bodyIn};
 
 // How many bytes the body of a kind has, where there is such a kind.
@@ -73,7 +74,7 @@ fn fields_of(s: &[u8]) -> Record
 
 // What s begins with: nothing, a kind that is unknown, a body that is cut off, or a record and its length.
 pub fn read_record(s: &[u8]) -> Read
-    ensures { λ r. ⌜ r ≡ readOf (now (s .entry)) ⌝ }
+    ensures { λ r. ⌜ saidRead r ≡ saidRead (readOf (now (s .entry))) ⌝ }
 {
     if s.len() == 0 {
         return Read::End;

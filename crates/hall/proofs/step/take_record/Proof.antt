@@ -2,6 +2,7 @@
 use mathlib.Core.Path.{refl, sym, _∙_}
 use borrow.Author.Needs.{needs}
 use Rattle.meaning.proofs.Labelled.{held-whole}
+use Rattle.meaning.proofs.Said.{read-once}
 use Rattle.meaning.proofs.Boxes.{short-leaves, end-leaves, unread-leaves, disorder-leaves, order-leaves, read-leaves}
 use Rattle.hall.proofs.step.take_record.Statement.{statement}
 use Rattle.hall.proofs.step.take_record.Tie as tie
@@ -46,7 +47,7 @@ returns-2 c =
     let l = d .before in
     rw (c .only4 .ensures)
     (disorder-leaves _ _ _ _ (l .before .before .before .pre) (l .if1 .left) _ _ (λ e. o .if2 .taken (e ∙ sym (o .before .before .phase-of .ensures)))
-    ∙ read-leaves _ _ _ _ (sym (d .read-record .ensures) ∙ w .what .given .1))
+    ∙ read-leaves _ _ _ _ (sym (read-once _ _ (d .read-record .ensures)) ∙ w .what .given .1))
 
 set-up-requires : tie.Need-set-up-requires
 set-up-requires c κs =
@@ -63,7 +64,7 @@ returns-3 c =
     let o = e .if2 .left ∙ e .before .before .phase-of .ensures in
     c .set-up .ensures _ _ _ _ _ _ (d .before .before .before .before .pre) o (t .if3 .taken)
     ∙ order-leaves _ _ (d .before .if1 .left) _ _ o
-    ∙ read-leaves _ _ _ _ (sym (d .read-record .ensures) ∙ w .what .given .1)
+    ∙ read-leaves _ _ _ _ (sym (read-once _ _ (d .read-record .ensures)) ∙ w .what .given .1)
 
 act-requires : tie.Need-act-requires
 act-requires c κs =
@@ -78,7 +79,7 @@ returns-4 c =
     let d = t .before .before in
     let l = d .before in
     rw (c .only2 .ensures)
-    (end-leaves _ _ _ _ (l .before .before .before .pre) (l .if1 .left) ∙ read-leaves _ _ _ _ (sym (d .read-record .ensures) ∙ t .enum-told .given .1))
+    (end-leaves _ _ _ _ (l .before .before .before .pre) (l .if1 .left) ∙ read-leaves _ _ _ _ (sym (read-once _ _ (d .read-record .ensures)) ∙ t .enum-told .given .1))
 
 returns-5 : tie.Need-returns-5
 returns-5 c =
@@ -86,7 +87,7 @@ returns-5 c =
     let d = k .before .before in
     let l = d .before in
     rw (c .only3 .ensures)
-    (unread-leaves _ _ _ _ (l .before .before .before .pre) (l .if1 .left) _ ∙ read-leaves _ _ _ _ (sym (d .read-record .ensures) ∙ k .k .given .1))
+    (unread-leaves _ _ _ _ (l .before .before .before .pre) (l .if1 .left) _ ∙ read-leaves _ _ _ _ (sym (read-once _ _ (d .read-record .ensures)) ∙ k .k .given .1))
 
 same-length : tie.Need-same-length
 same-length c = search needs
@@ -95,7 +96,7 @@ returns-6 : tie.Need-returns-6
 returns-6 c =
     let a = c .before .before in
     let w = a .before .before .before .before .before .before .before .before .before .before .before .before .before .before in
-    a .act .ensures ∙ read-leaves _ _ _ _ (sym (w .before .before .read-record .ensures) ∙ w .what .given .1)
+    a .act .ensures ∙ read-leaves _ _ _ _ (sym (read-once _ _ (w .before .before .read-record .ensures)) ∙ w .what .given .1)
 
 pub take-record-spec : {M : Type 1} → statement M
 take-record-spec =

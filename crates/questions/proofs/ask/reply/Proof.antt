@@ -7,6 +7,7 @@ use Rattle.meaning.specs.declared.Record.the-variants.{Loop as askLoop, Fate as
 use Rattle.meaning.specs.declared.Answer.the-variants.{Went}
 use Rattle.meaning.specs.Questions.{asked, byAddress}
 use Rattle.meaning.specs.Records.{phaseOf, isQuestion}
+use Rattle.meaning.specs.Answers.{said}
 use Rattle.meaning.specs.Step.{when, refusal, answers, replyTo}
 use Rattle.meaning.proofs.Labelled.{held-whole, held-words}
 use Rattle.meaning.proofs.Replies.{reply-none, reply-early, reply-turned, reply-given}
@@ -15,7 +16,7 @@ use Rattle.questions.proofs.ask.reply.Statement.{statement}
 use Rattle.questions.proofs.ask.reply.Tie as tie
 
 returns : tie.Need-returns
-returns c = sym (reply-early _ _ (c .if1 .taken))
+returns c = ap said (sym (reply-early _ _ (c .if1 .taken)))
 
 enum-told : tie.Need-enum-told
 enum-told c = search needs
@@ -30,7 +31,7 @@ returns-2 : tie.Need-returns-2
 unfolding refusal when isQuestion phaseOf
 returns-2 c =
     let w = c .before .before .before in
-    sym (ap (replyTo _) (w .what .given .1) ∙ reply-turned _ (askFate _ _) refl (w .before .before .if1 .left) 4 (rw (le-leb _ _ (c .if2 .taken))))
+    ap said (sym (ap (replyTo _) (w .what .given .1) ∙ reply-turned _ (askFate _ _) refl (w .before .before .if1 .left) 4 (rw (le-leb _ _ (c .if2 .taken)))))
 
 fate-from-requires : tie.Need-fate-from-requires
 fate-from-requires c κs = (c .before .before .before .before .before .before .before .pre, c .if2 .left)
@@ -42,15 +43,15 @@ returns-3 : tie.Need-returns-3
 unfolding refusal when isQuestion phaseOf
 returns-3 c =
     let w = c .before .before .before in
-    sym (ap (replyTo _) (w .what2 .given .1) ∙ reply-turned _ (askReach _ _) refl (w .before .before .if1 .left) 4 (rw (le-leb _ _ (c .if3 .taken))))
+    ap said (sym (ap (replyTo _) (w .what2 .given .1) ∙ reply-turned _ (askReach _ _) refl (w .before .before .if1 .left) 4 (rw (le-leb _ _ (c .if3 .taken)))))
 
 returns-4 : tie.Need-returns-4
 unfolding refusal when isQuestion phaseOf
 returns-4 c =
     let l = c .before .before in
     let w = l .before .before .before in
-    sym (ap (replyTo _) (w .what2 .given .1)
-    ∙ reply-turned _ (askReach _ _) refl (w .before .before .if1 .left) 4 (rw (lt-leb _ _ (l .if3 .left), le-leb _ _ (c .if4 .taken))))
+    ap said (sym (ap (replyTo _) (w .what2 .given .1)
+    ∙ reply-turned _ (askReach _ _) refl (w .before .before .if1 .left) 4 (rw (lt-leb _ _ (l .if3 .left), le-leb _ _ (c .if4 .taken)))))
 
 find-reach-requires : tie.Need-find-reach-requires
 find-reach-requires c κs =
@@ -64,7 +65,7 @@ returns-5 : tie.Need-returns-5
 unfolding refusal when isQuestion phaseOf
 returns-5 c =
     let w = c .before .before .before in
-    sym (ap (replyTo _) (w .what3 .given .1) ∙ reply-turned _ (askTally _) refl (w .before .before .if1 .left) 4 (rw (le-leb _ _ (c .if5 .taken))))
+    ap said (sym (ap (replyTo _) (w .what3 .given .1) ∙ reply-turned _ (askTally _) refl (w .before .before .if1 .left) 4 (rw (le-leb _ _ (c .if5 .taken)))))
 
 count-fates-requires : tie.Need-count-fates-requires
 count-fates-requires c κs =
@@ -75,33 +76,33 @@ returns-6 : tie.Need-returns-6
 unfolding refusal isQuestion phaseOf answers
 returns-6 c =
     let t = c .before in
-    c .find-loop .ensures ∙ sym (ap (replyTo _) (t .enum-told .given .1) ∙ reply-given _ askLoop refl (t .before .before .if1 .left) refl)
+    ap said (c .find-loop .ensures ∙ sym (ap (replyTo _) (t .enum-told .given .1) ∙ reply-given _ askLoop refl (t .before .before .if1 .left) refl))
 
 returns-7 : tie.Need-returns-7
 unfolding refusal when isQuestion phaseOf answers byAddress asked
 returns-7 c =
     let w = c .before .before .before .before in
-    ap Went (c .fate-from .ensures)
-    ∙ sym (ap (replyTo _) (w .what .given .1) ∙ reply-given _ (askFate _ _) refl (w .before .before .if1 .left) (rw (lt-leb _ _ (c .before .if2 .left))))
+    ap said (ap Went (c .fate-from .ensures)
+    ∙ sym (ap (replyTo _) (w .what .given .1) ∙ reply-given _ (askFate _ _) refl (w .before .before .if1 .left) (rw (lt-leb _ _ (c .before .if2 .left)))))
 
 returns-8 : tie.Need-returns-8
 unfolding refusal when isQuestion phaseOf answers
 returns-8 c =
     let l = c .before .before .before in
     let w = l .before .before .before in
-    c .find-reach .ensures
+    ap said (c .find-reach .ensures
     ∙ sym (ap (replyTo _) (w .what2 .given .1)
-    ∙ reply-given _ (askReach _ _) refl (w .before .before .if1 .left) (rw (lt-leb _ _ (l .if3 .left), lt-leb _ _ (c .before .if4 .left))))
+    ∙ reply-given _ (askReach _ _) refl (w .before .before .if1 .left) (rw (lt-leb _ _ (l .if3 .left), lt-leb _ _ (c .before .if4 .left)))))
 
 returns-9 : tie.Need-returns-9
 unfolding refusal when isQuestion phaseOf answers
 returns-9 c =
     let w = c .before .before .before .before in
-    c .count-fates .ensures
-    ∙ sym (ap (replyTo _) (w .what3 .given .1) ∙ reply-given _ (askTally _) refl (w .before .before .if1 .left) (rw (lt-leb _ _ (c .before .if5 .left))))
+    ap said (c .count-fates .ensures
+    ∙ sym (ap (replyTo _) (w .what3 .given .1) ∙ reply-given _ (askTally _) refl (w .before .before .if1 .left) (rw (lt-leb _ _ (c .before .if5 .left)))))
 
 returns-10 : tie.Need-returns-10
-returns-10 c = sym (reply-none _ _ (no-question _ (c .match .keys5)))
+returns-10 c = ap said (sym (reply-none _ _ (no-question _ (c .match .keys5))))
 
 pub reply-spec : {M : Type 1} → statement M
 reply-spec =

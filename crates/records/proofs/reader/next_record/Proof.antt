@@ -48,12 +48,12 @@ use denote.Triple.Walked.{says, Stays, stay-ref, walkOf, goes-ref, Walks, ends-a
 use denote.Triple.Clauses.{ensured, lasts}
 use Rattle.meaning.specs.Records.{placedAt}
 use Rattle.meaning.specs.declared.Placed.{Placed}
-use Rattle.meaning.proofs.Reading.{placed-read, placed-place}
 use Rattle.meaning.proofs.Placed as P
 use Rattle.meaning.proofs.Placed.Laws as P′
 use Rattle.meaning.proofs.Read as S
 use Rattle.meaning.proofs.Read.Laws as S′
 use Rattle.records.specs.declared.reader.Reader.{Reader}
+use Rattle.records.specs.Readers.{next as went, nextOf}
 use Rattle.records.proofs.reader.Reader as T
 use Rattle.records.proofs.reader.Reader.Laws as T′
 use Rattle.records.proofs.reader.take_at as take
@@ -161,10 +161,11 @@ module _ {M : Type 1} (𝓤 : URA M) (H : Heap 𝓤) (A : Atoms 𝓤) (W : Given
 
   exits : (r : Placed) → r ≡ found
       → ent 𝓤 (⋆ 𝓤 H A (‵ (fobs γ (B κ′ .coded .code (moved (r .place)))) ∷ ‵ (fbor κ (Body (mem (B κ′)) b o γ)) ∷ ‵ (flft κ q) ∷ ‵ (P.the-row .own r (mach-placed r ∷ [])) ∷ (‵ (flft κ′ q′) ⊛ ‵ ftrue) ∷ [])) (Post (mach-read r))
+  unfolding nextOf
   exits r e =
       qed W (‵ (fobs γ (B κ′ .coded .code (moved (r .place)))) ∷ ‵ (fbor κ (Body (mem (B κ′)) b o γ)) ∷ ‵ (flft κ q) ∷ ‵ (P.the-row .own r (mach-placed r ∷ [])) ∷ (‵ (flft κ′ q′) ⊛ ‵ ftrue) ∷ []) ∵
       suffices ! _ (ends-at 𝓤 H A next.ended stayed (next.clauses 𝓤 H A at-mem run) W (((κ, (κ′, tt)), (q, (q′, tt)), bounds, x, vals), tt) (mach-read r) (r .read) (moved (r .place), tt) (tt, tt)) $
-      says ! (placed-read _ _ r e, refl, placed-place _ _ r e) $ move ! (2 ∷ 4 ∷ []) $ join ! $
+      says ! (ap (λ (z : Placed). went (z .read) (moved (z .place))) e) $ move ! (2 ∷ 4 ∷ []) $ join ! $
       frame ! $ feqI ! (List Val) (vptr b o ∷ []) (vptr b o ∷ []) refl $ fjoin3 ! $ nothing ! $ move ! (1 ∷ 0 ∷ []) $ fjoin ! $
       -- [what is had of the parameter; what the callee's result owns]: of it, what its first field owns
       move ! (1 ∷ []) $ use1 W (given (mach-placed r ∷ [] ≡ mach-placed r ∷ []) (‵ (all-own (P.the-type .parts) P′.the-laws (r .read, (r .place, tt))))) (own-open 𝓤 H A W P.the-type P′.the-laws (r .read, (r .place, tt)) (mach-placed r)) $

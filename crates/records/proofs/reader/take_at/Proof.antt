@@ -9,6 +9,7 @@ use borrow.Author.Needs.{needs}
 use Rattle.meaning.specs.Records.{placeAfter}
 use Rattle.meaning.specs.declared.Read.{Read}
 use Rattle.meaning.proofs.Reading.{read-within, placed}
+use Rattle.meaning.proofs.Said.{read-once}
 use Rattle.records.proofs.reader.take_at.Statement.{statement}
 use Rattle.records.proofs.reader.take_at.Tie as tie
 
@@ -32,14 +33,14 @@ add-t7 : tie.Need-add-t7
 add-t7 c =
     let a = c .before .before .before .before .args in
     ⊎-elim
-    (λ x. omega (arith, x .4, length-drop (a .at) (a .bytes .now), read-within _ _ _ (sym (c .before .before .read-at .ensures) ∙ x .1 .given .1)))
+    (λ x. omega (arith, x .4, length-drop (a .at) (a .bytes .now), read-within _ _ _ (sym (read-once _ _ (c .before .before .read-at .ensures)) ∙ x .1 .given .1)))
     (⊎-elim (λ x. omega (arith, x .3)) (λ x. omega (arith, x .3)))
     (c .before .match .came)
 
 returns : tie.Need-returns
 unfolding placeAfter
 returns c =
-    let read = c .before .before .read-at .ensures in
+    let read = read-once _ _ (c .before .before .read-at .ensures) in
     ⊎-elim
     (λ x. placed _ _ _ _ (x .3 ∙ (sym (x .1 .given .1) ∙ read)) (after _ _ _ _ _ (x .3) refl (x .4)))
     (⊎-elim

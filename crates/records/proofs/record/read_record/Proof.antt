@@ -6,6 +6,7 @@ use Prim.Native.Nat.{ℕ, _+_, _<_, _≤_}
 use native.Mathlib.Omega.{arith}
 use lib.ListN.{length, getD}
 use Rattle.meaning.specs.Records.{isKind, bodyOf}
+use Rattle.meaning.specs.Answers.{saidRead}
 use Rattle.meaning.specs.declared.Read.the-variants.{Got}
 use Rattle.meaning.proofs.Reading.{read-end, read-unknown, read-short, read-got}
 use Rattle.records.specs.Kinds.{bodyIn}
@@ -33,7 +34,7 @@ unfolding bodyIn
 unknown b k h e = subst (λ (x : Body). bodyIn x k) e h
 
 returns : tie.Need-returns
-returns c = read-end (c .before .before .args .s .now) (c .if1 .taken)
+returns c = ap saidRead (read-end (c .before .before .args .s .now) (c .if1 .taken))
 
 shared-slice-read-body-of : tie.Need-shared-slice-read-body-of
 shared-slice-read-body-of c = search needs
@@ -53,7 +54,7 @@ returns-2 : tie.Need-returns-2
 returns-2 c =
     let b = c .before .before .before .before in
     let k = known _ _ _ (b .body-of .ensures) (c .before .before .n .given .1) in
-    read-short _ (b .before .before .if1 .left) (k .kind) (omega (arith, k .body, c .if2 .taken))
+    ap saidRead (read-short _ (b .before .before .if1 .left) (k .kind) (omega (arith, k .body, c .if2 .taken)))
 
 fields-of-requires : tie.Need-fields-of-requires
 fields-of-requires c κs =
@@ -70,12 +71,12 @@ returns-3 : tie.Need-returns-3
 returns-3 c =
     let b = c .before .before .before .before .before in
     let k = known _ _ _ (b .body-of .ensures) (c .before .before .before .n .given .1) in
-    ap₂ Got (c .fields-of .ensures) (ap (λ (x : ℕ). 1 + x) (k .body)) ∙ read-got _ (b .before .before .if1 .left) (k .kind) (omega (arith, k .body, c .before .if2 .left))
+    ap saidRead (ap₂ Got (c .fields-of .ensures) (ap (λ (x : ℕ). 1 + x) (k .body)) ∙ read-got _ (b .before .before .if1 .left) (k .kind) (omega (arith, k .body, c .before .if2 .left)))
 
 returns-4 : tie.Need-returns-4
 returns-4 c =
     let b = c .before .before in
-    read-unknown _ (b .before .before .if1 .left) (unknown _ _ (b .body-of .ensures) (c .enum-told .given .1))
+    ap saidRead (read-unknown _ (b .before .before .if1 .left) (unknown _ _ (b .body-of .ensures) (c .enum-told .given .1)))
 
 pub read-record-spec : {M : Type 1} → statement M
 read-record-spec =

@@ -1,0 +1,2 @@
+-- The laws of the reader's functions.
+pub mod Once
