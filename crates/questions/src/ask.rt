@@ -174,9 +174,8 @@ fn count_fates(
         lost: 0,
         round: 0,
     };
-    let atoms = places(h);
     let mut p: usize = 0;
-    while p < atoms {
+    while p < places(h) {
         let atom = tables::atom_at(number, Place(p));
         let out = crate::stand::in_row(&stand, 16, atom);
         let lost = crate::stand::in_row(&stand, 17, atom);
