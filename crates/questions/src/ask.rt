@@ -4,6 +4,7 @@ use meaning::Answer;
 use meaning::Fate;
 use meaning::Hall;
 use meaning::Record;
+use tables::Place;
 ghost use mathlib.Core.Path.{_≡_};
 ghost use Prim.Native.Nat.{ℕ, _+_, _-_, _<_, _≤_};
 ghost use Rattle.meaning.specs.Questions.{fateOf, isOut, isLost, byAddress};
@@ -32,8 +33,16 @@ fn fate_from(
     requires { ⌜ v < h .nodes ⌝ }
     ensures { λ r. ⌜ r ≡ fateOf (stateOf h (now (link .entry)) (now (rule .entry)) (now (cut .entry)) (now (number .entry))) v a ⌝ }
 {
-    let atom = tables::atom_of(h, cut, number, a).0 as usize;
+    let atom = tables::atom_of(h, cut, number, a);
     crate::walk::follow(link, owner, atom, h.nodes, v)
+}
+
+// How many places there are: at most 512, which the compiler is told here, so that it leaves the test of `atom_at` out of the loops.
+fn places(h: Hall) -> usize
+    requires { ⌜ h .atoms ≤ 512 ⌝ }
+    ensures { λ r. ⌜ r ≡ h .atoms ⌝ }
+{
+    if 512 < h.atoms { 512 } else { h.atoms as usize }
 }
 
 // The lowest address that goes round from some node, and the lowest node on one of its circles. Nodes that lie on no circle of leads are
@@ -50,7 +59,7 @@ fn find_loop(
     requires { ⌜ Whole (stateOf h (now link) (now rule) (now cut) (now number)) (now label) (now owner) ⌝ }
     ensures { λ r. ⌜ r ≡ byAddress (stateOf h (now (link .entry)) (now (rule .entry)) (now (cut .entry)) (now (number .entry))) askLoop ⌝ }
 {
-    let atoms = h.atoms as usize;
+    let atoms = places(h);
     let nodes = h.nodes;
     let never = crate::lead::off_walks(link, label);
     let mut answer = Answer::NoLoop;
@@ -59,7 +68,7 @@ fn find_loop(
     }
     let mut p: usize = 0;
     'search: while p < atoms {
-        let atom = number[p] as usize;
+        let atom = tables::atom_at(number, Place(p));
         let mut off = never;
         let mut v = crate::walk::first_on(off);
         while v < nodes {
@@ -95,14 +104,14 @@ fn find_reach(
     requires { ⌜ v < h .nodes ⌝ }
     ensures { λ r. ⌜ r ≡ byAddress (stateOf h (now (link .entry)) (now (rule .entry)) (now (cut .entry)) (now (number .entry))) (askReach v w) ⌝ }
 {
-    let atoms = h.atoms as usize;
+    let atoms = places(h);
     let to = crate::lead::toward_walks(link, label, w);
     if (to >> v) % 2 == 0 {
         return Answer::No;
     }
     let mut p: usize = 0;
     while p < atoms {
-        let atom = number[p] as usize;
+        let atom = tables::atom_at(number, Place(p));
         if crate::walk::comes_to(link, owner, atom, h.nodes, v, w, to) {
             return Answer::Yes(cut[p]);
         }
@@ -167,8 +176,8 @@ fn count_fates(
         round: 0,
     };
     let mut p: usize = 0;
-    while p < h.atoms as usize {
-        let atom = number[p] as usize;
+    while p < places(h) {
+        let atom = tables::atom_at(number, Place(p));
         let out = crate::stand::in_row(&stand, 16, atom);
         let lost = crate::stand::in_row(&stand, 17, atom);
         c = counted(c, out, lost, cut[p + 1] - cut[p]);

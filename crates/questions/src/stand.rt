@@ -1,6 +1,7 @@
 // The walks of all atoms from one node at once: sets of atoms, 64 to a word, carried along the links by their labels.
 // A table of sets has 18 rows of eight words, each row a set as a label is: row w for the atoms that stand at node w at some time, row 16
 // for those that go out of the hall, row 17 for those that are lost.
+use tables::Atom;
 ghost use mathlib.Core.Path.{_≡_};
 ghost use mathlib.Core.Bool.{Bool};
 ghost use Prim.Native.Nat.{ℕ, _<_, _≤_};
@@ -11,12 +12,13 @@ ghost use Rattle.meaning.proofs.Owners.{Words};
 ghost use Rattle.questions.specs.Standing.{Declared, Filled, JoinedRow, TakenAway, Leaving, Along, SettledBut, Round, Spread, Outward, Stayed, GatheredRow, Gathered, Divided};
 
 // Whether an atom is in a row.
-pub fn in_row(stand: &[u64; 144], row: usize, atom: usize) -> bool
-    requires { ⌜ (row < 18) × (atom < 512) ⌝ }
-    ensures { λ r. ⌜ r ≡ on (now (stand .entry)) row atom ⌝ }
+pub fn in_row(stand: &[u64; 144], row: usize, atom: Atom) -> bool
+    requires { ⌜ (row < 18) × (atom .0 < 512) ⌝ }
+    ensures { λ r. ⌜ r ≡ on (now (stand .entry)) row (atom .0) ⌝ }
 {
-    let w = stand[8 * row + atom / 64];
-    (w >> (atom % 64)) % 2 == 1
+    let k = atom.0 as usize;
+    let w = stand[8 * row + k / 64];
+    (w >> (k % 64)) % 2 == 1
 }
 
 // Puts all atoms in row v of an empty table.

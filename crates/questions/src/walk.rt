@@ -1,10 +1,11 @@
 // The walk of a packet to one atom: at a node it takes the owner's link, and at the link's end it stands at the node, or has ended.
 use meaning::Fate;
+use tables::Atom;
 ghost use mathlib.Core.Bool.{true, false};
 ghost use mathlib.Core.Path.{_≡_};
 ghost use Prim.Native.Nat.{ℕ, _+_, _-_, _<_, _≤_};
 ghost use Rattle.meaning.specs.Walk.{at, move, arrive, told, fateIn, comesTo};
-ghost use Rattle.meaning.proofs.Owners.{nextIn, endIn, Ends};
+ghost use Rattle.meaning.proofs.Owners.{ownerIn, nextIn, endIn, Ends};
 ghost use Rattle.meaning.proofs.Moving.{among, Off};
 ghost use Rattle.questions.specs.Moves.{led, seen, Below, Comes};
 
@@ -14,15 +15,23 @@ pub enum Led {
     Ended,
 }
 
+// The owner of an atom at node v.
+fn owner_at(owner: &[u16; 8192], atom: Atom, v: u8) -> u16
+    requires { ⌜ (atom .0 < 512) × (v < 16) ⌝ }
+    ensures { λ r. ⌜ r ≡ ownerIn (now (owner .entry)) (atom .0) v ⌝ }
+{
+    owner[16 * atom.0 as usize + v as usize]
+}
+
 // The packet stands at node v after some hops, with `left` moves more until it is round.
-fn stand(link: &[u16; 64], owner: &[u16; 8192], atom: usize, v: u8, hops: u8, left: u8) -> Fate
-    requires { ⌜ (atom < 512) × (v < 16) × (hops + left < 256) × Ends (now link) (now owner) ⌝ }
-    ensures { λ r. ⌜ r ≡ fateIn (nextIn (now (owner .entry)) atom) (endIn (now (link .entry))) left hops v ⌝ }
+fn stand(link: &[u16; 64], owner: &[u16; 8192], atom: Atom, v: u8, hops: u8, left: u8) -> Fate
+    requires { ⌜ (atom .0 < 512) × (v < 16) × (hops + left < 256) × Ends (now link) (now owner) ⌝ }
+    ensures { λ r. ⌜ r ≡ fateIn (nextIn (now (owner .entry)) (atom .0)) (endIn (now (link .entry))) left hops v ⌝ }
 {
     if left == 0 {
         return Fate::Round;
     }
-    let e = owner[16 * atom + v as usize];
+    let e = owner_at(owner, atom, v);
     if e == 0 {
         return Fate::Lost(v, hops);
     }
@@ -33,14 +42,14 @@ fn stand(link: &[u16; 64], owner: &[u16; 8192], atom: usize, v: u8, hops: u8, le
 fn travel(
     link: &[u16; 64],
     owner: &[u16; 8192],
-    atom: usize,
+    atom: Atom,
     v: u8,
     l: u8,
     hops: u8,
     left: u8,
 ) -> Fate
-    requires { ⌜ (atom < 512) × (l < 64) × (0 < left) × (hops + left < 256) × (endIn (now link) l < 256 → endIn (now link) l < 16) × Ends (now link) (now owner) ⌝ }
-    ensures { λ r. ⌜ r ≡ told (fateIn (nextIn (now (owner .entry)) atom) (endIn (now (link .entry))) (left - 1) (hops + 1)) hops (arrive v l (endIn (now (link .entry)) l)) ⌝ }
+    requires { ⌜ (atom .0 < 512) × (l < 64) × (0 < left) × (hops + left < 256) × (endIn (now link) l < 256 → endIn (now link) l < 16) × Ends (now link) (now owner) ⌝ }
+    ensures { λ r. ⌜ r ≡ told (fateIn (nextIn (now (owner .entry)) (atom .0)) (endIn (now (link .entry))) (left - 1) (hops + 1)) hops (arrive v l (endIn (now (link .entry)) l)) ⌝ }
 {
     let e = link[l as usize] % 1024;
     if e < 256 {
@@ -53,19 +62,19 @@ fn travel(
 }
 
 // What becomes of a packet to an atom that stands at node v of a hall of n nodes.
-pub fn follow(link: &[u16; 64], owner: &[u16; 8192], atom: usize, n: u8, v: u8) -> Fate
-    requires { ⌜ (atom < 512) × (v < 16) × (n ≤ 16) × Ends (now link) (now owner) ⌝ }
-    ensures { λ r. ⌜ r ≡ fateIn (nextIn (now (owner .entry)) atom) (endIn (now (link .entry))) n 0 v ⌝ }
+pub fn follow(link: &[u16; 64], owner: &[u16; 8192], atom: Atom, n: u8, v: u8) -> Fate
+    requires { ⌜ (atom .0 < 512) × (v < 16) × (n ≤ 16) × Ends (now link) (now owner) ⌝ }
+    ensures { λ r. ⌜ r ≡ fateIn (nextIn (now (owner .entry)) (atom .0)) (endIn (now (link .entry))) n 0 v ⌝ }
 {
     stand(link, owner, atom, v, 0, n)
 }
 
 // Where one move from node v leads.
-fn move_from(link: &[u16; 64], owner: &[u16; 8192], atom: usize, v: u8) -> Led
-    requires { ⌜ (atom < 512) × (v < 16) × Ends (now link) (now owner) ⌝ }
-    ensures { λ r. ⌜ led r (move (nextIn (now (owner .entry)) atom) (endIn (now (link .entry))) (at v)) ⌝ }
+fn move_from(link: &[u16; 64], owner: &[u16; 8192], atom: Atom, v: u8) -> Led
+    requires { ⌜ (atom .0 < 512) × (v < 16) × Ends (now link) (now owner) ⌝ }
+    ensures { λ r. ⌜ led r (move (nextIn (now (owner .entry)) (atom .0)) (endIn (now (link .entry))) (at v)) ⌝ }
 {
-    let e = owner[16 * atom + v as usize];
+    let e = owner_at(owner, atom, v);
     if e == 0 {
         return Led::Ended;
     }
@@ -92,9 +101,9 @@ pub fn first_on(off: u16) -> u8
 
 // Whether node v lies on a circle of an atom. Where its walk ends, or comes to a node of `off`, the nodes passed lie on none and join
 // `off`: so no node is walked from again that is seen to end. Where it goes round elsewhere, v alone joins.
-pub fn look(link: &[u16; 64], owner: &[u16; 8192], atom: usize, n: u8, v: u8, off: u16) -> Seen
-    requires { ⌜ (atom < 512) × (v < 16) × (n ≤ 16) × Ends (now link) (now owner) × Off (nextIn (now owner) atom) (endIn (now link)) n off ⌝ }
-    ensures { λ r. ⌜ seen (nextIn (now (owner .entry)) atom) (endIn (now (link .entry))) n v off r ⌝ }
+pub fn look(link: &[u16; 64], owner: &[u16; 8192], atom: Atom, n: u8, v: u8, off: u16) -> Seen
+    requires { ⌜ (atom .0 < 512) × (v < 16) × (n ≤ 16) × Ends (now link) (now owner) × Off (nextIn (now owner) (atom .0)) (endIn (now link)) n off ⌝ }
+    ensures { λ r. ⌜ seen (nextIn (now (owner .entry)) (atom .0)) (endIn (now (link .entry))) n v off r ⌝ }
 {
     let mut here = v;
     let mut passed = off;
@@ -126,14 +135,14 @@ pub fn look(link: &[u16; 64], owner: &[u16; 8192], atom: usize, n: u8, v: u8, of
 pub fn comes_to(
     link: &[u16; 64],
     owner: &[u16; 8192],
-    atom: usize,
+    atom: Atom,
     n: u8,
     v: u8,
     w: u8,
     to: u16,
 ) -> bool
-    requires { ⌜ (atom < 512) × (v < 16) × (n ≤ 16) × Ends (now link) (now owner) × Comes (nextIn (now owner) atom) (endIn (now link)) w to ⌝ }
-    ensures { λ r. ⌜ r ≡ comesTo (nextIn (now (owner .entry)) atom) (endIn (now (link .entry))) n v w ⌝ }
+    requires { ⌜ (atom .0 < 512) × (v < 16) × (n ≤ 16) × Ends (now link) (now owner) × Comes (nextIn (now owner) (atom .0)) (endIn (now link)) w to ⌝ }
+    ensures { λ r. ⌜ r ≡ comesTo (nextIn (now (owner .entry)) (atom .0)) (endIn (now (link .entry))) n v w ⌝ }
 {
     let mut here = v;
     let mut i: u8 = 0;

@@ -176,9 +176,13 @@ module _ {cut number label₀ label owner₀ owner list₀ list : List ℕ} {n v
       let b = ready .few in
       (omega arith, small ready below, ready .node, omega (arith, ready .room), omega arith, swept .owners .long ∙ ready .size)
 
-  -- the owner that is read at the next place is that from before the sweep
-  pub swept-reads : ownerBy owner number v p ≡ ownerBy owner₀ number v p
-  swept-reads = swept .owners .places p (omega (arith, ready .within)) (inr (omega arith))
+  -- the owner at the next place is that from before the sweep
+  kept : ownerBy owner number v p ≡ ownerBy owner₀ number v p
+  kept = swept .owners .places p (omega (arith, ready .within)) (inr (omega arith))
+
+  -- and it is what is read at the index of the place's atom
+  pub swept-reads : {atom i : ℕ} → atom ≡ getD number p 0 → i ≡ 16 * atom + v → getD owner i 0 ≡ ownerBy owner₀ number v p
+  swept-reads a e = rw (e, a) kept
 
   -- one place more swept
   pub swept-settled : {old new r : ℕ} {label′ owner′ list′ : List ℕ} → old ≡ ownerBy owner₀ number v p → new ≡ h p
@@ -194,7 +198,7 @@ module _ {cut number label₀ label owner₀ owner list₀ list : List ℕ} {n v
       go u (yes d) =
           let z = u .same d in
           rw (z .0, z .1, z .2, z .3) record {
-            owners = more-owners (record { long = refl; at = swept-reads ∙ d; else = λ j x. refl });
+            owners = more-owners (record { long = refl; at = kept ∙ d; else = λ j x. refl });
             labels = λ link agrees starts at. swept .labels link agrees starts (λ q a b. at q a (omega arith));
             words = wrote-skip (swept .words) from d;
           }
@@ -203,7 +207,7 @@ module _ {cut number label₀ label owner₀ owner list₀ list : List ℕ} {n v
           let w : Stored owner owner′ (16 * getD number p 0 + v) (h p) = rw (u .owners d) (set-stored owner (16 * getD number p 0 + v) (h p) i) in
           record {
             owners = more-owners w;
-            labels = λ link agrees starts at. agrees-moved (swept .labels link agrees starts (λ q a b. at q a (omega arith))) (u .labels d) w swept-reads
+            labels = λ link agrees starts at. agrees-moved (swept .labels link agrees starts (λ q a b. at q a (omega arith))) (u .labels d) w kept
                 (starts .here (getD number p 0) v (small ready below) (ready .node)) (at p from (omega arith));
             words = rw (u .more d) (wrote-more (swept .words) from d (u .words d));
           }

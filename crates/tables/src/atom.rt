@@ -2,7 +2,7 @@
 use meaning::Hall;
 ghost use mathlib.Core.Path.{_≡_};
 ghost use mathlib.Core.Bool.{false};
-ghost use Prim.Native.Nat.{ℕ, _+_, _≤_, _<_};
+ghost use Prim.Native.Nat.{ℕ, _+_, _*_, _≤_, _<_};
 ghost use lib.ListN.{length, getD};
 ghost use Rattle.meaning.specs.Hall.{top, State};
 ghost use Rattle.meaning.specs.Box.{AtomsHeld};
@@ -34,13 +34,16 @@ pub fn place_of(cut: &[u64; 513], n: usize, a: u64) -> Place
     Place(low)
 }
 
-// The number of the atom at a place.
+// The atom at a place, and past the last place the atom 0. Nothing else leads from a place to its atom.
 pub fn atom_at(number: &[u16; 512], p: Place) -> Atom
-    requires { ⌜ p .0 < 512 ⌝ }
     ensures { λ r. ⌜ r .0 ≡ getD (now (number .entry)) (p .0) 0 ⌝ }
 {
+    let s: &[u16] = number;
     let i = p.0;
-    Atom(number[i])
+    if i < s.len() {
+        return Atom(s[i]);
+    }
+    Atom(0)
 }
 
 // The number of the atom that address a lies in.
@@ -53,13 +56,13 @@ pub fn atom_of(h: Hall, cut: &[u64; 513], number: &[u16; 512], a: u32) -> Atom
 }
 
 // Of n + 1 boundaries, those from place p on move up one place, and b goes in.
-fn insert_cut(cut: &mut [u64; 513], n: usize, p: usize, b: u64)
+fn insert_cut(cut: &mut [u64; 513], n: usize, p: Place, b: u64)
     requires { ⌜ Cuts top (now cut) n ⌝ }
-    requires { ⌜ (p ≤ n) × (n < 512) ⌝ }
-    ensures { λ r. ⌜ now (cut .exit) ≡ insertAt p b (now (cut .entry)) ⌝ }
+    requires { ⌜ (p .0 ≤ n) × (n < 512) ⌝ }
+    ensures { λ r. ⌜ now (cut .exit) ≡ insertAt (p .0) b (now (cut .entry)) ⌝ }
 {
     let mut carry = b;
-    let mut j = p;
+    let mut j = p.0;
     while j < n + 2 {
         let old = cut[j];
         cut[j] = carry;
@@ -68,14 +71,14 @@ fn insert_cut(cut: &mut [u64; 513], n: usize, p: usize, b: u64)
     }
 }
 
-// Of n numbers, those from place p on move up one place, and k goes in.
-fn insert_number(number: &mut [u16; 512], n: usize, p: usize, k: u16)
+// Of n numbers, those from place p on move up one place, and that of an atom goes in.
+fn insert_number(number: &mut [u16; 512], n: usize, p: Place, atom: Atom)
     requires { ⌜ Numbers (now number) n ⌝ }
-    requires { ⌜ (p ≤ n) × (n < 512) ⌝ }
-    ensures { λ r. ⌜ now (number .exit) ≡ insertAt p k (now (number .entry)) ⌝ }
+    requires { ⌜ (p .0 ≤ n) × (n < 512) ⌝ }
+    ensures { λ r. ⌜ now (number .exit) ≡ insertAt (p .0) (atom .0) (now (number .entry)) ⌝ }
 {
-    let mut carry = k;
-    let mut j = p;
+    let mut carry = atom.0;
+    let mut j = p.0;
     while j < n + 1 {
         let old = number[j];
         number[j] = carry;
@@ -84,15 +87,23 @@ fn insert_number(number: &mut [u16; 512], n: usize, p: usize, k: u16)
     }
 }
 
+// Where the table of owners has that of an atom at node v.
+pub fn owner_index(atom: Atom, v: usize) -> usize
+    requires { ⌜ (atom .0 < 512) × (v < 16) ⌝ }
+    ensures { λ r. ⌜ (r ≡ 16 * atom .0 + v) × (r < 8192) ⌝ }
+{
+    16 * atom.0 as usize + v
+}
+
 // Gives the atom new the owners of the atom old, and puts it on the links that they name.
-fn give(label: &mut [u64; 512], owner: &mut [u16; 8192], old: usize, new: usize)
-    requires { ⌜ (old < 512) × (new < 512) × (old ≡ new → ⊥) × (length (now owner) ≡ 8192) ⌝ }
-    ensures { λ r. ⌜ Given (now (label .entry)) (now (label .exit)) (now (owner .entry)) (now (owner .exit)) old new ⌝ }
+fn give(label: &mut [u64; 512], owner: &mut [u16; 8192], old: Atom, new: Atom)
+    requires { ⌜ (old .0 < 512) × (new .0 < 512) × (old .0 ≡ new .0 → ⊥) × (length (now owner) ≡ 8192) ⌝ }
+    ensures { λ r. ⌜ Given (now (label .entry)) (now (label .exit)) (now (owner .entry)) (now (owner .exit)) (old .0) (new .0) ⌝ }
 {
     let mut v: usize = 0;
     while v < 16 {
-        let e = owner[16 * old + v];
-        owner[16 * new + v] = e;
+        let e = owner[owner_index(old, v)];
+        owner[owner_index(new, v)] = e;
         if e != 0 {
             crate::label::put(label, (e / 512 % 64) as usize, new);
         }
@@ -115,13 +126,16 @@ pub fn make_boundary(
     ensures { λ r. ⌜ ((m : State) → m .cut ≡ now (cut .entry) → m .number ≡ now (number .entry) → m .atoms ≡ n
         → Whole m (now (label .entry)) (now (owner .entry)) → Whole (withCut m b) (now (label .exit)) (now (owner .exit))) ⌝ }
 {
-    let p = place_of(cut, n, b).0;
-    if cut[p] == b {
+    let p = place_of(cut, n, b);
+    let i = p.0;
+    if cut[i] == b {
         return n;
     }
-    let old = number[p] as usize;
-    insert_cut(cut, n, p + 1, b);
-    insert_number(number, n, p + 1, n as u16);
-    give(label, owner, old, n);
+    let old = atom_at(number, p);
+    let new = Atom(n as u16);
+    let next = Place(i + 1);
+    insert_cut(cut, n, next, b);
+    insert_number(number, n, next, new);
+    give(label, owner, old, new);
     n + 1
 }

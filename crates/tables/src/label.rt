@@ -1,4 +1,5 @@
 // Labels: 512 words, link l's at 8 l to 8 l + 7, and atom k the bit k % 64 of the word k / 64 of these.
+use crate::atom::Atom;
 ghost use Prim.Native.Nat.{_<_, _≤_};
 ghost use Rattle.meaning.proofs.Owners.{Words};
 ghost use Rattle.tables.specs.Bits.{Put, TakenOff, Moved};
@@ -12,27 +13,29 @@ pub fn known(label: &[u64; 512])
 }
 
 // Puts an atom on a link.
-pub fn put(label: &mut [u64; 512], link: usize, atom: usize)
-    requires { ⌜ (link < 64) × (atom < 512) ⌝ }
-    ensures { λ r. ⌜ Put (now (label .entry)) (now (label .exit)) link atom ⌝ }
+pub fn put(label: &mut [u64; 512], link: usize, atom: Atom)
+    requires { ⌜ (link < 64) × (atom .0 < 512) ⌝ }
+    ensures { λ r. ⌜ Put (now (label .entry)) (now (label .exit)) link (atom .0) ⌝ }
 {
     let s: &mut [u64] = label;
-    s[8 * link + atom / 64] |= 1u64 << (atom % 64);
+    let k = atom.0 as usize;
+    s[8 * link + k / 64] |= 1u64 << (k % 64);
 }
 
 // Takes an atom off a link.
-pub fn take_off(label: &mut [u64; 512], link: usize, atom: usize)
-    requires { ⌜ (link < 64) × (atom < 512) ⌝ }
-    ensures { λ r. ⌜ TakenOff (now (label .entry)) (now (label .exit)) link atom ⌝ }
+pub fn take_off(label: &mut [u64; 512], link: usize, atom: Atom)
+    requires { ⌜ (link < 64) × (atom .0 < 512) ⌝ }
+    ensures { λ r. ⌜ TakenOff (now (label .entry)) (now (label .exit)) link (atom .0) ⌝ }
 {
     let s: &mut [u64] = label;
-    s[8 * link + atom / 64] &= !(1u64 << (atom % 64));
+    let k = atom.0 as usize;
+    s[8 * link + k / 64] &= !(1u64 << (k % 64));
 }
 
 // Moves an atom from the link old to the link new, where each may be 64 for none.
-pub fn move_atom(label: &mut [u64; 512], old: usize, new: usize, atom: usize)
-    requires { ⌜ (old ≤ 64) × (new ≤ 64) × (atom < 512) ⌝ }
-    ensures { λ r. ⌜ Moved (now (label .entry)) (now (label .exit)) old new atom ⌝ }
+pub fn move_atom(label: &mut [u64; 512], old: usize, new: usize, atom: Atom)
+    requires { ⌜ (old ≤ 64) × (new ≤ 64) × (atom .0 < 512) ⌝ }
+    ensures { λ r. ⌜ Moved (now (label .entry)) (now (label .exit)) old new (atom .0) ⌝ }
 {
     if old < 64 {
         take_off(label, old, atom);

@@ -7,6 +7,8 @@ mod take;
 mod update;
 
 pub use atom::Atom;
+pub use atom::Place;
+pub use atom::atom_at;
 pub use atom::atom_of;
 pub use link::source_of;
 pub use take::take_insert;

@@ -102,12 +102,12 @@ pub fn check_remove(rule: &[u64; 256], r: u16) -> Check
 // ---- one change
 
 // Writes entry k of the list.
-fn write_entry(list: &mut [u64], k: usize, atom: u64, low: u64, high: u64, old: u64, new: u64)
+fn write_entry(list: &mut [u64], k: usize, atom: Atom, low: u64, high: u64, old: u64, new: u64)
     requires { ⌜ (5 * k + 5 ≤ length (now list)) × (k < 512) ⌝ }
-    ensures { λ r. ⌜ now (list .exit) ≡ take (5 * k) (now (list .entry)) ++ (atom ∷ low ∷ high ∷ old ∷ new ∷ []) ++ drop (5 * k + 5) (now (list .entry)) ⌝ }
+    ensures { λ r. ⌜ now (list .exit) ≡ take (5 * k) (now (list .entry)) ++ (atom .0 ∷ low ∷ high ∷ old ∷ new ∷ []) ++ drop (5 * k + 5) (now (list .entry)) ⌝ }
 {
     let i = 5 * k;
-    list[i] = atom;
+    list[i] = atom.0 as u64;
     list[i + 1] = low;
     list[i + 2] = high;
     list[i + 3] = old;
@@ -143,12 +143,12 @@ fn change_owner(
     ensures { λ r. ⌜ now (list .exit) ≡ take (5 * k) (now (list .entry)) ++ (getD (now (number .entry)) (p .0) 0 ∷ getD (now (cut .entry)) (p .0) 0 ∷ getD (now (cut .entry)) (p .0 + 1) 0 ∷ via old ∷ via new ∷ []) ++ drop (5 * k + 5) (now (list .entry)) ⌝ }
 {
     let i = p.0;
-    let atom = crate::atom::atom_at(number, p).0 as usize;
-    owner[16 * atom + v] = new;
+    let atom = crate::atom::atom_at(number, p);
+    owner[crate::atom::owner_index(atom, v)] = new;
     let from = via_of(old);
     let to = via_of(new);
     crate::label::move_atom(label, from as usize, to as usize, atom);
-    write_entry(list, k, atom as u64, cut[i], cut[i + 1], from, to);
+    write_entry(list, k, atom, cut[i], cut[i + 1], from, to);
 }
 
 // One place of a sweep: where the owner at node v is to change from old to new, it does, and the change is entry k of the list.
@@ -173,6 +173,14 @@ fn settle(
     }
     change_owner(cut, number, label, owner, list, p, v, old, new, k);
     k + 1
+}
+
+// The place where a sweep ends: at most 512, which the compiler is told here, so that it leaves the test of `atom_at` out of the sweep.
+fn end_of(t: Place) -> usize
+    requires { ⌜ t .0 ≤ 512 ⌝ }
+    ensures { λ r. ⌜ r ≡ t .0 ⌝ }
+{
+    if 512 < t.0 { 512 } else { t.0 }
 }
 
 // ---- an insert
@@ -210,12 +218,12 @@ fn take_over(
     requires { ⌜ (Ready (now number) (now owner) (now list) n v (f .0) (t .0)) × (Numbered (now owner)) ⌝ }
     ensures { λ r. ⌜ SweptAll (now (cut .entry)) (now (number .entry)) n v (f .0) (t .0) (ownerBy (now (owner .entry)) (now (number .entry)) v) (λ q. raised (now (rule .entry)) mine rank (ownerBy (now (owner .entry)) (now (number .entry)) v q)) (now (label .entry)) (now (label .exit)) (now (owner .entry)) (now (owner .exit)) (now (list .entry)) (now (list .exit)) r ⌝ }
 {
-    let end = t.0;
+    let end = end_of(t);
     let mut p = f.0;
     let mut k: usize = 0;
     while p < end {
-        let atom = number[p] as usize;
-        let old = owner[16 * atom + v];
+        let atom = crate::atom::atom_at(number, Place(p));
+        let old = owner[crate::atom::owner_index(atom, v)];
         let new = higher(rule, old, mine, rank);
         k = settle(cut, number, label, owner, list, Place(p), v, old, new, k);
         p += 1;
@@ -327,12 +335,12 @@ fn hand_on(
     requires { ⌜ (Ready (now number) (now owner) (now list) n v (f .0) (t .0)) × (count ≤ 256) × ((j : ℕ) → j < count → getD (now among) j 0 < 256) ⌝ }
     ensures { λ r. ⌜ SweptAll (now (cut .entry)) (now (number .entry)) n v (f .0) (t .0) (ownerBy (now (owner .entry)) (now (number .entry)) v) (λ q. heirOf (now (rule .entry)) (now (among .entry)) count gone (getD (now (cut .entry)) q 0) (ownerBy (now (owner .entry)) (now (number .entry)) v q)) (now (label .entry)) (now (label .exit)) (now (owner .entry)) (now (owner .exit)) (now (list .entry)) (now (list .exit)) r ⌝ }
 {
-    let end = t.0;
+    let end = end_of(t);
     let mut p = f.0;
     let mut k: usize = 0;
     while p < end {
-        let atom = number[p] as usize;
-        let old = owner[16 * atom + v];
+        let atom = crate::atom::atom_at(number, Place(p));
+        let old = owner[crate::atom::owner_index(atom, v)];
         let new = heir(rule, among, count, gone, cut[p], old);
         k = settle(cut, number, label, owner, list, Place(p), v, old, new, k);
         p += 1;

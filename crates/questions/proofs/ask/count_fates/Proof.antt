@@ -16,6 +16,12 @@ Inv-loop h link rule cut number label owner v stand c₀ p₀ c p = (p ≤ h .at
 abbrev μ-loop : tie.MeasureT-loop
 μ-loop h link rule cut number label owner v stand c₀ p₀ c p = h .atoms - p
 
+-- the atom at place p is one of 512
+small : (a : tie.After-atom-at Inv-loop μ-loop) → a .atom-at .result .0 < 512
+small a =
+    let l = a .before .before .before in
+    rw (a .atom-at .ensures) (small-atom _ _ _ (l .before .before .before .before .pre .0) _ (omega arith))
+
 cast-divide : tie.Need-cast-divide Inv-loop μ-loop
 cast-divide c = search needs
 
@@ -28,27 +34,17 @@ divide-requires c κs =
 loop-holds : tie.Need-loop-holds Inv-loop μ-loop
 loop-holds c = (omega arith, tally-none _ _)
 
-cast-if1 : tie.Need-cast-if1 Inv-loop μ-loop
-cast-if1 c = search needs
+places-requires : tie.Need-places-requires Inv-loop μ-loop
+places-requires c κs = c .before .before .before .before .pre .0 .sound .cuts .room
 
-mul-atom : tie.Need-mul-atom Inv-loop μ-loop
-mul-atom c = omega (arith, c .before .before .before .before .before .before .pre .0 .sound .cuts .room)
-
-element-copy-out-atom : tie.Need-element-copy-out-atom Inv-loop μ-loop
-element-copy-out-atom c = omega (arith, c .before .before .before .before .before .before .pre .0 .sound .cuts .room)
-
-cast-atom : tie.Need-cast-atom Inv-loop μ-loop
-cast-atom c = omega (arith, small-atom _ _ _ (c .before .before .before .before .before .before .before .pre .0) _ (c .before .if1 .taken))
+atom-at-requires : tie.Need-atom-at-requires Inv-loop μ-loop
+atom-at-requires c κs = search needs
 
 in-row-requires : tie.Need-in-row-requires Inv-loop μ-loop
-in-row-requires c κs =
-    let l = c .before .before .before .before in
-    (omega arith, small-atom _ _ _ (l .before .before .before .before .pre .0) _ (omega arith))
+in-row-requires c κs = (omega arith, small (c .before))
 
 in-row-requires-2 : tie.Need-in-row-requires-2 Inv-loop μ-loop
-in-row-requires-2 c κs =
-    let l = c .before .before .before .before .before .before in
-    (omega arith, small-atom _ _ _ (l .before .before .before .before .pre .0) _ (omega arith))
+in-row-requires-2 c κs = (omega arith, small (c .before .before .before))
 
 add-counted : tie.Need-add-counted Inv-loop μ-loop
 add-counted c = search needs
@@ -88,12 +84,12 @@ loop-again c =
     let s = l .before .before .before .before in
     let W = s .pre .0 in
     let D = l .before .divide .ensures in
-    let h = c .before .before .before .before .before .before .before .before .if1 .taken in
-    let k = small-atom _ _ _ W _ h in
+    let a = c .before .before .before .before .before .before .before in
+    let h = rw (a .before .before .places .ensures) at (a .before .if1 .taken) in
     let C = carries-of _ _ _ W in
-    let o = c .before .before .before .before .before .in-row .ensures ∙ D .out _ _ _ C (s .pre .1 .0) k in
-    let t = c .before .before .before .in-row2 .ensures ∙ D .lost _ _ _ C (s .pre .1 .0) k in
-    let n = c .counted .ensures _ (sym o) (sym t) in
+    let o = c .before .before .before .before .before .in-row .ensures ∙ D .out _ _ _ C (s .pre .1 .0) (small a) in
+    let t = c .before .before .before .in-row2 .ensures ∙ D .lost _ _ _ C (s .pre .1 .0) (small a) in
+    let n = rw (a .atom-at .ensures) at (c .counted .ensures _ (sym o) (sym t)) in
     (omega (arith, h), rw (n .out, n .lost, n .round) (tally-more _ _ _ W _ _ _ _ _ h (l .loop .inv .1) _ refl))
 
 returns : tie.Need-returns Inv-loop μ-loop
@@ -112,10 +108,8 @@ count-fates-spec =
     cast-divide
     divide-requires
     loop-holds
-    cast-if1
-    mul-atom
-    element-copy-out-atom
-    cast-atom
+    places-requires
+    atom-at-requires
     in-row-requires
     in-row-requires-2
     add-counted

@@ -20,7 +20,7 @@ use Rattle.questions.proofs.ask.find_loop.Statement.{statement}
 use Rattle.questions.proofs.ask.find_loop.Tie as tie
 
 abbrev Inv-loop : tie.InvT-loop
-Inv-loop link rule cut number label owner atoms nodes never answer₀ p atom off₀ v₀ answer off v = (answer ≡ NoLoop) × Below off v × Off (nextIn owner atom) (endIn link) nodes off
+Inv-loop link rule cut number label owner atoms nodes never answer₀ p atom off₀ v₀ answer off v = (answer ≡ NoLoop) × Below off v × Off (nextIn owner (atom .0)) (endIn link) nodes off
 
 abbrev μ-loop : tie.MeasureT-loop
 μ-loop link rule cut number label owner atoms nodes never answer₀ p atom off₀ v₀ answer off v = nodes - v
@@ -43,8 +43,15 @@ above off more v r h b e w f = ⊎-elim (λ (l : r ≤ v). absurd (true≢false 
     go (inl q) = rw q e
     go (inr l) = w r (b r l)
 
-cast-atoms : tie.Need-cast-atoms Inv-loop μ-loop Inv-search μ-search
-cast-atoms c = search needs
+-- the atom at place p is one of 512
+small : (a : tie.After-atom-at Inv-loop μ-loop Inv-search μ-search) → a .atom-at .result .0 < 512
+small a =
+    let i = a .before in
+    let s = i .before .before .before .before in
+    rw (a .atom-at .ensures) (small-atom _ _ _ (s .before .pre) _ (rw (s .places .ensures) at (i .search-test .taken)))
+
+places-requires : tie.Need-places-requires Inv-loop μ-loop Inv-search μ-search
+places-requires c κs = c .pre .sound .cuts .room
 
 off-walks-requires : tie.Need-off-walks-requires Inv-loop μ-loop Inv-search μ-search
 off-walks-requires c κs = search needs
@@ -55,42 +62,34 @@ returns c = sym (no-loop _ _ _ (c .before .before .before .pre) _ (c .before .of
 search-holds : tie.Need-search-holds Inv-loop μ-loop Inv-search μ-search
 search-holds c = (omega arith, refl, λ q l. absurd (omega arith))
 
-mul-atom : tie.Need-mul-atom Inv-loop μ-loop Inv-search μ-search
-mul-atom c = omega (arith, c .before .before .before .before .before .pre .sound .cuts .room)
-
-element-copy-out-atom : tie.Need-element-copy-out-atom Inv-loop μ-loop Inv-search μ-search
-element-copy-out-atom c = omega (arith, c .before .before .before .before .before .pre .sound .cuts .room)
-
-cast-atom : tie.Need-cast-atom Inv-loop μ-loop Inv-search μ-search
-cast-atom c = omega (arith, small-atom _ _ _ (c .before .before .before .before .before .before .pre) _ (c .before .search-test .taken))
+atom-at-requires : tie.Need-atom-at-requires Inv-loop μ-loop Inv-search μ-search
+atom-at-requires c κs = search needs
 
 first-on-requires : tie.Need-first-on-requires Inv-loop μ-loop Inv-search μ-search
 first-on-requires c κs = search needs
 
 loop-holds : tie.Need-loop-holds Inv-loop μ-loop Inv-search μ-search
 loop-holds c =
-    let i = c .before .before in
-    let s = i .before in
+    let s = c .before .before .before in
     let W = s .before .before .before .before .pre in
-    let F = s .before .before .off-walks .ensures .each _ (together _ _ _ W) _ _ (small-atom _ _ _ W _ (i .search-test .taken)) in
-    (s .search .inv .1, c .first-on .ensures .1, F)
+    (s .search .inv .1, c .first-on .ensures .1, s .before .before .off-walks .ensures .each _ (together _ _ _ W) _ _ (small (c .before)))
 
 look-requires : tie.Need-look-requires Inv-loop μ-loop Inv-search μ-search
 look-requires c κs =
-    let i = c .before .before .before .before in
-    let W = i .before .before .before .before .before .pre in
-    (small-atom _ _ _ W _ (i .search-test .taken), omega (arith, W .sound .small), W .sound .small, ends-of _ _ _ W, c .before .loop .inv .2)
+    let a = c .before .before .before in
+    let W = a .before .before .before .before .before .before .pre in
+    (small a, omega (arith, W .sound .small), W .sound .small, ends-of _ _ _ W, c .before .loop .inv .2)
 
 enum-told : tie.Need-enum-told Inv-loop μ-loop Inv-search μ-search
 enum-told c = search needs
 
-mul-t25 : tie.Need-mul-t25 Inv-loop μ-loop Inv-search μ-search
-mul-t25 c =
+mul-t22 : tie.Need-mul-t22 Inv-loop μ-loop Inv-search μ-search
+mul-t22 c =
     let s = c .before .before .before .before .before .before .before .before in
     omega (arith, s .before .before .before .before .pre .sound .cuts .room)
 
-element-copy-out-t28 : tie.Need-element-copy-out-t28 Inv-loop μ-loop Inv-search μ-search
-element-copy-out-t28 c =
+element-copy-out-t25 : tie.Need-element-copy-out-t25 Inv-loop μ-loop Inv-search μ-search
+element-copy-out-t25 c =
     let s = c .before .before .before .before .before .before .before .before in
     omega (arith, s .before .before .before .before .pre .sound .cuts .room)
 
@@ -126,7 +125,7 @@ search-again : tie.Need-search-again Inv-loop μ-loop Inv-search μ-search
 search-again c =
     let l = c .before in
     let s = l .before .before .before .before in
-    (omega arith, l .loop .inv .0, below-more _ _ (s .search .inv .2) (λ u h. clear _ _ _ _ _ (l .loop .inv .2) (l .loop .inv .1) u (omega arith)))
+    (omega arith, l .loop .inv .0, below-more _ _ (s .search .inv .2) (λ u h. rw (l .before .before .atom-at .ensures) at (clear _ _ _ _ _ (l .loop .inv .2) (l .loop .inv .1)) u (omega arith)))
 
 returns-2 : tie.Need-returns-2 Inv-loop μ-loop Inv-search μ-search
 returns-2 c =
@@ -138,8 +137,9 @@ unfolding seen
 returns-3 c =
     let l = c .before .before .before .before .before in
     let s = l .before .before .before .before in
-    let q = rw (c .before .enum-told .given .1) at (c .before .before .before .look .ensures) in
-    sym (loop-is _ _ _ (s .before .before .before .before .pre) _ _ (omega arith) (omega arith) (s .search .inv .2) (clear _ _ _ _ _ (l .loop .inv .2) (l .loop .inv .1)) q)
+    let e = l .before .before .atom-at .ensures in
+    let q = rw (c .before .enum-told .given .1, e) at (c .before .before .before .look .ensures) in
+    sym (loop-is _ _ _ (s .before .before .before .before .pre) _ _ (omega arith) (omega arith) (s .search .inv .2) (rw e at (clear _ _ _ _ _ (l .loop .inv .2) (l .loop .inv .1))) q)
 
 pub find-loop-spec : {M : Type 1} → statement M
 find-loop-spec =
@@ -149,19 +149,17 @@ find-loop-spec =
     μ-loop
     Inv-search
     μ-search
-    cast-atoms
+    places-requires
     off-walks-requires
     returns
     search-holds
-    mul-atom
-    element-copy-out-atom
-    cast-atom
+    atom-at-requires
     first-on-requires
     loop-holds
     look-requires
     enum-told
-    mul-t25
-    element-copy-out-t28
+    mul-t22
+    element-copy-out-t25
     enum-known-more
     first-on-requires-2
     loop-less

@@ -15,8 +15,8 @@ Inv-loop h link rule cut number label owner v w atoms to p₀ p = (p ≤ atoms) 
 abbrev μ-loop : tie.MeasureT-loop
 μ-loop h link rule cut number label owner v w atoms to p₀ p = atoms - p
 
-cast-atoms : tie.Need-cast-atoms Inv-loop μ-loop
-cast-atoms c = search needs
+places-requires : tie.Need-places-requires Inv-loop μ-loop
+places-requires c κs = c .pre .0 .sound .cuts .room
 
 toward-walks-requires : tie.Need-toward-walks-requires Inv-loop μ-loop
 toward-walks-requires c κs = search needs
@@ -34,32 +34,26 @@ returns c =
 loop-holds : tie.Need-loop-holds Inv-loop μ-loop
 loop-holds c = (omega arith, λ q l. absurd (omega arith))
 
-mul-atom : tie.Need-mul-atom Inv-loop μ-loop
-mul-atom c = omega (arith, c .before .before .before .before .before .pre .0 .sound .cuts .room)
-
-element-copy-out-atom : tie.Need-element-copy-out-atom Inv-loop μ-loop
-element-copy-out-atom c = omega (arith, c .before .before .before .before .before .pre .0 .sound .cuts .room)
-
-cast-atom : tie.Need-cast-atom Inv-loop μ-loop
-cast-atom c = omega (arith, small-atom _ _ _ (c .before .before .before .before .before .before .pre .0) _ (c .before .loop-test .taken))
+atom-at-requires : tie.Need-atom-at-requires Inv-loop μ-loop
+atom-at-requires c κs = search needs
 
 comes-to-requires : tie.Need-comes-to-requires Inv-loop μ-loop
 comes-to-requires c κs =
     let s = c .before .before .before .before in
     let W = s .before .before .pre .0 in
-    let q = small-atom _ _ _ W _ (c .before .loop-test .taken) in
+    let q = rw (← c .atom-at .ensures) at (small-atom _ _ _ W _ (rw (s .before .places .ensures) at (c .before .loop-test .taken))) in
     (q, omega (arith, s .before .before .pre .1, W .sound .small), W .sound .small, ends-of _ _ _ W, s .toward-walks .ensures .each _ (together _ _ _ W) _ q)
 
-mul-t24 : tie.Need-mul-t24 Inv-loop μ-loop
-mul-t24 c = search needs
+mul-t21 : tie.Need-mul-t21 Inv-loop μ-loop
+mul-t21 c = search needs
 
-element-copy-out-t27 : tie.Need-element-copy-out-t27 Inv-loop μ-loop
-element-copy-out-t27 c = search needs
+element-copy-out-t24 : tie.Need-element-copy-out-t24 Inv-loop μ-loop
+element-copy-out-t24 c = search needs
 
 returns-2 : tie.Need-returns-2 Inv-loop μ-loop
 returns-2 c =
     let l = c .before .before .before .before .before in
-    sym (reach-is _ _ _ (l .before .before .before .before .pre .0) _ _ _ (omega arith) (l .loop .inv .1) (sym (c .before .before .comes-to .ensures) ∙ c .before .if2 .taken))
+    sym (reach-is _ _ _ (l .before .before .before .before .pre .0) _ _ _ (omega arith) (l .loop .inv .1) (rw (c .before .before .before .atom-at .ensures) at (sym (c .before .before .comes-to .ensures) ∙ c .before .if2 .taken)))
 
 add-p : tie.Need-add-p Inv-loop μ-loop
 add-p c = search needs
@@ -70,7 +64,7 @@ loop-less c = search needs
 loop-again : tie.Need-loop-again Inv-loop μ-loop
 loop-again c =
     let l = c .before .before .before .before in
-    (omega arith, below-more _ _ (l .loop .inv .1) (sym (c .before .comes-to .ensures) ∙ c .if2 .left))
+    (omega arith, below-more _ _ (l .loop .inv .1) (rw (c .before .before .atom-at .ensures) at (sym (c .before .comes-to .ensures) ∙ c .if2 .left)))
 
 returns-3 : tie.Need-returns-3 Inv-loop μ-loop
 returns-3 c =
@@ -83,17 +77,15 @@ find-reach-spec =
     (tie.spec
     Inv-loop
     μ-loop
-    cast-atoms
+    places-requires
     toward-walks-requires
     shr-if1
     returns
     loop-holds
-    mul-atom
-    element-copy-out-atom
-    cast-atom
+    atom-at-requires
     comes-to-requires
-    mul-t24
-    element-copy-out-t27
+    mul-t21
+    element-copy-out-t24
     returns-2
     add-p
     loop-less

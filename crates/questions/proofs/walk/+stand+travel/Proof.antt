@@ -17,6 +17,7 @@ use Rattle.questions.proofs.walk.+stand+travel.Lts-stand as stand-lts
 use Rattle.questions.proofs.walk.travel.Reads as travel
 use Rattle.questions.proofs.walk.travel.Kinds as travel-kinds
 use Rattle.questions.proofs.walk.+stand+travel.Lts-travel as travel-lts
+use Rattle.questions.proofs.walk.owner_at.Reads as owner-at
 use Rattle.questions.proofs.walk.+stand+travel.{statement}
 use Rattle.questions.proofs.walk.+stand+travel.Tie.{close}
 
@@ -39,50 +40,40 @@ abbrev travel-below : ℕ → In 2 travel-kinds.ps
 travel-below t = and 2 travel-kinds.ps (falls 2 travel-kinds.ps _<_ μ-travel t) travel.Pre
 
 stand-returns :
-    (t : ℕ) → stand-lts.Need-returns (travel-below t, travel.Post) (stand-at t) stand.Post
+    (t : ℕ) → stand-lts.Need-returns (owner-at.Asked, owner-at.Learnt, travel-below t, travel.Post) (stand-at t) stand.Post
 stand-returns t c = sym (fate-none _ _ _ _ _ (c .if1 .taken))
 
-stand-mul-e : (t : ℕ) → stand-lts.Need-mul-e (travel-below t, travel.Post) (stand-at t) stand.Post
-stand-mul-e t c = search needs
-
-stand-add-e : (t : ℕ) → stand-lts.Need-add-e (travel-below t, travel.Post) (stand-at t) stand.Post
-stand-add-e t c = search needs
-
-stand-mul-e-2 :
-    (t : ℕ) → stand-lts.Need-mul-e-2 (travel-below t, travel.Post) (stand-at t) stand.Post
-stand-mul-e-2 t c = search needs
-
-stand-element-copy-out-e : (t : ℕ) → stand-lts.Need-element-copy-out-e (
-  travel-below t,
-  travel.Post,
-) (stand-at t) stand.Post
-stand-element-copy-out-e t c = search needs
+stand-owner-at-requires :
+    (t : ℕ) → stand-lts.Need-owner-at-requires (owner-at.Asked, owner-at.Learnt, travel-below t, travel.Post) (stand-at t) stand.Post
+stand-owner-at-requires t c κs = search needs
 
 stand-returns-2 :
-    (t : ℕ) → stand-lts.Need-returns-2 (travel-below t, travel.Post) (stand-at t) stand.Post
+    (t : ℕ) → stand-lts.Need-returns-2 (owner-at.Asked, owner-at.Learnt, travel-below t, travel.Post) (stand-at t) stand.Post
 unfolding leave told
 stand-returns-2 t c =
     let s = c .before .before .before in
     let more : 0 < s .args .left = omega arith in
-    rw (fate-more, next-none _ _ _ (s .pre .1 .1) (c .if2 .taken))
+    rw (fate-more, next-none _ _ _ (s .pre .1 .1) (rw (c .before .owner-at .ensures) at (c .if2 .taken)))
 
 stand-cast-travel :
-    (t : ℕ) → stand-lts.Need-cast-travel (travel-below t, travel.Post) (stand-at t) stand.Post
+    (t : ℕ) → stand-lts.Need-cast-travel (owner-at.Asked, owner-at.Learnt, travel-below t, travel.Post) (stand-at t) stand.Post
 stand-cast-travel t c = search needs
 
 stand-travel-requires :
-    (t : ℕ) → stand-lts.Need-travel-requires (travel-below t, travel.Post) (stand-at t) stand.Post
+    (t : ℕ) → stand-lts.Need-travel-requires (owner-at.Asked, owner-at.Learnt, travel-below t, travel.Post) (stand-at t) stand.Post
 stand-travel-requires t c κs =
     let s = c .before .before .before in
-    (omega arith, (s .pre .1 .0, omega arith, omega arith, s .pre .1 .2, s .pre .1 .3 .inside _ _ (s .pre .1 .0) (s .pre .1 .1) (c .if2 .left), s .pre .1 .3))
+    let e = c .before .owner-at .ensures in
+    (omega arith, (s .pre .1 .0, omega arith, omega arith, s .pre .1 .2, rw e (s .pre .1 .3 .inside _ _ (s .pre .1 .0) (s .pre .1 .1) (rw e at (c .if2 .left))), s .pre .1 .3))
 
 stand-returns-3 :
-    (t : ℕ) → stand-lts.Need-returns-3 (travel-below t, travel.Post) (stand-at t) stand.Post
+    (t : ℕ) → stand-lts.Need-returns-3 (owner-at.Asked, owner-at.Learnt, travel-below t, travel.Post) (stand-at t) stand.Post
 unfolding leave told
 stand-returns-3 t c =
     let s = c .before .before .before .before in
     let more : 0 < s .args .left = omega arith in
-    rw (fate-more, next-some _ _ _ (s .pre .1 .1) (c .before .if2 .left)) (c .travel .ensures)
+    let e = c .before .before .owner-at .ensures in
+    rw (fate-more, next-some _ _ _ (s .pre .1 .1) (rw e at (c .before .if2 .left)), ← e) (c .travel .ensures)
 
 travel-mul-e :
     (t : ℕ) → travel-lts.Need-mul-e (stand-below t, stand.Post) (travel-at t) travel.Post
@@ -134,14 +125,11 @@ pub +stand+travel-spec : {M : Type 1} → statement M
     μ-stand
     μ-travel
     (λ t. stand-lts.spec
-    (travel-below t, travel.Post)
+    (owner-at.Asked, owner-at.Learnt, travel-below t, travel.Post)
     (stand-at t)
     stand.Post
     (stand-returns t)
-    (stand-mul-e t)
-    (stand-add-e t)
-    (stand-mul-e-2 t)
-    (stand-element-copy-out-e t)
+    (stand-owner-at-requires t)
     (stand-returns-2 t)
     (stand-cast-travel t)
     (stand-travel-requires t)

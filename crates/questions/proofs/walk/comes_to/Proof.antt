@@ -13,7 +13,7 @@ use Rattle.questions.proofs.walk.comes_to.Statement.{statement}
 use Rattle.questions.proofs.walk.comes_to.Tie as tie
 
 abbrev Inv-loop : tie.InvT-loop
-Inv-loop link owner atom n v w to here₀ i₀ here i = (i ≤ n) × (here < 16) × (after (nextIn owner atom) (endIn link) i (at v) ≡ at here) × NotYet (nextIn owner atom) (endIn link) v w i
+Inv-loop link owner atom n v w to here₀ i₀ here i = (i ≤ n) × (here < 16) × (after (nextIn owner (atom .0)) (endIn link) i (at v) ≡ at here) × NotYet (nextIn owner (atom .0)) (endIn link) v w i
 
 abbrev μ-loop : tie.MeasureT-loop
 μ-loop link owner atom n v w to here₀ i₀ here i = n - i

@@ -16,7 +16,7 @@ use Rattle.questions.proofs.walk.look.Statement.{statement}
 use Rattle.questions.proofs.walk.look.Tie as tie
 
 abbrev Inv-loop : tie.InvT-loop
-Inv-loop link owner atom n v off here₀ passed₀ i₀ here passed i = (i ≤ n) × (here < 16) × (after (nextIn owner atom) (endIn link) i (at v) ≡ at here) × NotBack (nextIn owner atom) (endIn link) v i × Trail (nextIn owner atom) (endIn link) n passed here × ((among passed v ≡ true) ⊎ (here ≡ v)) × Within off passed
+Inv-loop link owner atom n v off here₀ passed₀ i₀ here passed i = (i ≤ n) × (here < 16) × (after (nextIn owner (atom .0)) (endIn link) i (at v) ≡ at here) × NotBack (nextIn owner (atom .0)) (endIn link) v i × Trail (nextIn owner (atom .0)) (endIn link) n passed here × ((among passed v ≡ true) ⊎ (here ≡ v)) × Within off passed
 
 abbrev μ-loop : tie.MeasureT-loop
 μ-loop link owner atom n v off here₀ passed₀ i₀ here passed i = n - i

@@ -1,7 +1,5 @@
 -- `atom::atom_of` meets its contract: the number at the address's place. Assumes nothing.
-use native.Mathlib.Omega.{arith}
 use borrow.Author.Needs.{needs}
-use Rattle.meaning.proofs.Places.{place-holds}
 use Rattle.meaning.proofs.Labelled.{held-whole}
 use Rattle.tables.proofs.atom.atom_of.Statement.{statement}
 use Rattle.tables.proofs.atom.atom_of.Tie as tie
@@ -13,11 +11,7 @@ place-of-requires : tie.Need-place-of-requires
 place-of-requires c κs = held-whole _ _ _ (c .before .pre .held) .sound .cuts
 
 atom-at-requires : tie.Need-atom-at-requires
-atom-at-requires c κs =
-    let s = c .before .before in
-    let C = held-whole _ _ _ (s .pre .held) .sound .cuts in
-    let h = place-holds C (s .args .a) (omega (arith, s .fits .a)) in
-    omega (arith, c .place-of .ensures .0, h .within, C .room)
+atom-at-requires c κs = search needs
 
 returns : tie.Need-returns
 returns c = rw (c .atom-at .ensures, c .before .place-of .ensures .0)

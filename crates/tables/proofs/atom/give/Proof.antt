@@ -8,7 +8,7 @@ use Rattle.tables.proofs.atom.give.Statement.{statement}
 use Rattle.tables.proofs.atom.give.Tie as tie
 
 abbrev Inv-loop : tie.InvT-loop
-Inv-loop label₀ owner₀ old new v₀ label owner v = (v ≤ 16) × Giving label₀ label owner₀ owner old new v
+Inv-loop label₀ owner₀ old new v₀ label owner v = (v ≤ 16) × Giving label₀ label owner₀ owner (old .0) (new .0) v
 
 abbrev μ-loop : tie.MeasureT-loop
 μ-loop label₀ owner₀ old new v₀ label owner v = 16 - v
@@ -16,26 +16,20 @@ abbrev μ-loop : tie.MeasureT-loop
 loop-holds : tie.Need-loop-holds Inv-loop μ-loop
 loop-holds c = (search needs, give-start _ _ _ _)
 
+owner-index-requires : tie.Need-owner-index-requires Inv-loop μ-loop
+owner-index-requires c κs = search needs
+
 mul-e : tie.Need-mul-e Inv-loop μ-loop
 mul-e c = search needs
-
-add-e : tie.Need-add-e Inv-loop μ-loop
-add-e c = search needs
-
-mul-e-2 : tie.Need-mul-e-2 Inv-loop μ-loop
-mul-e-2 c = search needs
 
 element-copy-out-e : tie.Need-element-copy-out-e Inv-loop μ-loop
 element-copy-out-e c = search needs
 
+owner-index-requires-2 : tie.Need-owner-index-requires-2 Inv-loop μ-loop
+owner-index-requires-2 c κs = search needs
+
 mul-owner : tie.Need-mul-owner Inv-loop μ-loop
 mul-owner c = search needs
-
-add-owner : tie.Need-add-owner Inv-loop μ-loop
-add-owner c = search needs
-
-mul-owner-2 : tie.Need-mul-owner-2 Inv-loop μ-loop
-mul-owner-2 c = search needs
 
 element-write-owner : tie.Need-element-write-owner Inv-loop μ-loop
 element-write-owner c = search needs
@@ -54,13 +48,16 @@ loop-less c = search needs
 
 loop-again : tie.Need-loop-again Inv-loop μ-loop
 loop-again c =
-    let G = c .before .before .before .loop .inv .1 in
-    let p = c .before .before .before .before .pre in (
+    let b = c .before .before .before in
+    let G = b .before .before .loop .inv .1 in
+    let p = b .before .before .before .pre in
+    let i = b .owner-index .ensures .0 in (
       search needs,
-      ⊎-elim
-          (λ w. rw (w .3) (give-put G (search needs) (p .2) (p .1) (p .3) (w .0 .taken) (w .2 .ensures)))
-          (λ w. rw (w .1) (give-none G (search needs) (p .2) (p .1) (p .3) (w .0 .left)))
-          (c .if1 .came),
+      rw (i, c .before .owner-index2 .ensures .0)
+          (⊎-elim
+          (λ w. rw (w .3) (give-put G (search needs) (p .2) (p .1) (p .3) (rw i at (w .0 .taken)) (rw i at (w .2 .ensures))))
+          (λ w. rw (w .1) (give-none G (search needs) (p .2) (p .1) (p .3) (rw i at (w .0 .left))))
+          (c .if1 .came)),
     )
 
 returns : tie.Need-returns Inv-loop μ-loop
@@ -73,13 +70,11 @@ give-spec =
     Inv-loop
     μ-loop
     loop-holds
+    owner-index-requires
     mul-e
-    add-e
-    mul-e-2
     element-copy-out-e
+    owner-index-requires-2
     mul-owner
-    add-owner
-    mul-owner-2
     element-write-owner
     cast-put
     put-requires

@@ -8,10 +8,10 @@ use Rattle.tables.proofs.atom.insert_cut.Statement.{statement}
 use Rattle.tables.proofs.atom.insert_cut.Tie as tie
 
 abbrev Inv-loop : tie.InvT-loop
-Inv-loop cut₀ n p b carry₀ j₀ cut carry j = Shifting (n + 1) p b cut₀ cut carry j
+Inv-loop cut₀ n b carry₀ j₀ cut carry j = Shifting (n + 1) j₀ b cut₀ cut carry j
 
 abbrev μ-loop : tie.MeasureT-loop
-μ-loop cut₀ n p b carry₀ j₀ cut carry j = n + 2 - j
+μ-loop cut₀ n b carry₀ j₀ cut carry j = n + 2 - j
 
 loop-holds : tie.Need-loop-holds Inv-loop μ-loop
 loop-holds c = shift-start _ _ _ _ (omega arith) (λ q h. c .pre .0 .rest q (omega arith))

@@ -1,4 +1,4 @@
--- `atom::insert_number` meets its contract. The loop's invariant: to put what is carried in at j is to put k in at p of the list at entry.
+-- `atom::insert_number` meets its contract. The loop's invariant: to put what is carried in at j is to put the atom in at p of the list at entry.
 -- Past the used part all is 0. Assumes nothing.
 use Prim.Native.Nat.{_+_, _-_}
 use native.Mathlib.Omega.{arith}
@@ -8,10 +8,10 @@ use Rattle.tables.proofs.atom.insert_number.Statement.{statement}
 use Rattle.tables.proofs.atom.insert_number.Tie as tie
 
 abbrev Inv-loop : tie.InvT-loop
-Inv-loop number₀ n p k carry₀ j₀ number carry j = Shifting n p k number₀ number carry j
+Inv-loop number₀ n carry₀ j₀ number carry j = Shifting n j₀ carry₀ number₀ number carry j
 
 abbrev μ-loop : tie.MeasureT-loop
-μ-loop number₀ n p k carry₀ j₀ number carry j = n + 1 - j
+μ-loop number₀ n carry₀ j₀ number carry j = n + 1 - j
 
 loop-holds : tie.Need-loop-holds Inv-loop μ-loop
 loop-holds c = shift-start _ _ _ _ (omega arith) (λ q h. c .pre .0 .rest q (omega arith))

@@ -36,35 +36,26 @@ returns c =
       λ m ec ed en W. kept-whole m (s .args .b) ec en e W,
     )
 
-mul-old : tie.Need-mul-old
-mul-old c = search needs
+atom-at-requires : tie.Need-atom-at-requires
+atom-at-requires c κs = search needs
 
-element-copy-out-old : tie.Need-element-copy-out-old
-element-copy-out-old c = omega (arith, split c .place, split c .room)
+cast-t19 : tie.Need-cast-t19
+cast-t19 c = search needs
 
-cast-old : tie.Need-cast-old
-cast-old c = omega (arith, numbered (c .before), split (c .before) .room)
-
-add-insert-cut : tie.Need-add-insert-cut
-add-insert-cut c = search needs
+add-t13 : tie.Need-add-t13
+add-t13 c = search needs
 
 insert-cut-requires : tie.Need-insert-cut-requires
-insert-cut-requires c κs = let i = split (c .before .before) in (search needs, omega (arith, i .place, i .room))
-
-add-insert-number : tie.Need-add-insert-number
-add-insert-number c = search needs
-
-cast-insert-number : tie.Need-cast-insert-number
-cast-insert-number c = search needs
+insert-cut-requires c κs = let i = split (c .before .before .before) in (search needs, omega (arith, i .place, i .room))
 
 insert-number-requires : tie.Need-insert-number-requires
-insert-number-requires c κs = let i = split (c .before .before .before .before) in (search needs, omega (arith, i .place, i .room))
+insert-number-requires c κs = let i = split (c .before .before .before .before .before) in (search needs, omega (arith, i .place, i .room))
 
 give-requires : tie.Need-give-requires
 give-requires c κs =
-    let d = c .before .before .before .before .before .before .before in
-    let i = split d in
-    let h = numbered d in
+    let a = c .before .before .before .before .before .before in
+    let i = split (a .before .before) in
+    let h = rw (← a .atom-at .ensures) at (numbered (a .before .before)) in
     (omega (arith, h, i .room), i .room, λ e. omega (arith, h), search needs)
 
 add-result : tie.Need-add-result
@@ -72,10 +63,12 @@ add-result c = search needs
 
 returns-2 : tie.Need-returns-2
 returns-2 c =
-    let d = c .before .before .before .before .before .before .before .before in
+    let k = c .before .before .before in
+    let a = k .before .before .before .before in
+    let d = a .before .before in
     let s = d .before .before .before .before in (
-      split-made (split d) (c .before .before .before .before .before .insert-cut .ensures) (c .before .before .before .insert-number .ensures),
-      λ m ec ed en W. made-whole m (split d) ec ed en (s .pre .2) (c .give .ensures) W,
+      split-made (split d) (k .before .before .insert-cut .ensures) (k .insert-number .ensures),
+      λ m ec ed en W. made-whole m (split d) ec ed en (s .pre .2) (rw (a .atom-at .ensures) at (c .give .ensures)) W,
     )
 
 pub make-boundary-spec : {M : Type 1} → statement M
@@ -86,13 +79,10 @@ make-boundary-spec =
     mul-if1
     element-copy-out-if1
     returns
-    mul-old
-    element-copy-out-old
-    cast-old
-    add-insert-cut
+    atom-at-requires
+    cast-t19
+    add-t13
     insert-cut-requires
-    add-insert-number
-    cast-insert-number
     insert-number-requires
     give-requires
     add-result

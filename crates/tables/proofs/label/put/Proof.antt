@@ -5,6 +5,9 @@ use borrow.Author.Needs.{needs}
 use Rattle.tables.proofs.label.put.Statement.{statement}
 use Rattle.tables.proofs.label.put.Tie as tie
 
+cast-k : tie.Need-cast-k
+cast-k c = search needs
+
 shl-s : tie.Need-shl-s
 shl-s c = search needs
 
@@ -27,4 +30,4 @@ returns : tie.Need-returns
 returns c = put-is (search needs) (search needs) (search needs) (rw mask)
 
 pub put-spec : {M : Type 1} → statement M
-put-spec = tie.close (tie.spec shl-s mul-s add-s mul-s-2 slice-read-s slice-write-s returns)
+put-spec = tie.close (tie.spec cast-k shl-s mul-s add-s mul-s-2 slice-read-s slice-write-s returns)

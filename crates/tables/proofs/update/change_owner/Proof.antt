@@ -6,17 +6,11 @@ use Rattle.tables.proofs.update.change_owner.Tie as tie
 atom-at-requires : tie.Need-atom-at-requires
 atom-at-requires c κs = search needs
 
-cast-atom : tie.Need-cast-atom
-cast-atom c = search needs
+owner-index-requires : tie.Need-owner-index-requires
+owner-index-requires c κs = search needs
 
 mul-owner : tie.Need-mul-owner
 mul-owner c = search needs
-
-add-owner : tie.Need-add-owner
-add-owner c = search needs
-
-mul-owner-2 : tie.Need-mul-owner-2
-mul-owner-2 c = search needs
 
 element-write-owner : tie.Need-element-write-owner
 element-write-owner c = search needs
@@ -56,19 +50,18 @@ returns c =
     let m = c .before .before .before .before .before .before in
     let n = m .before .before in
     let a = n .before .before .before .atom-at .ensures in
+    let i = n .before .before .owner-index .ensures .0 in
     let o = n .before .via-of .ensures .0 in
     let e = n .via-of2 .ensures .0 in
-    (rw a, (rw (← a, ← o, ← e) (m .move-atom .ensures), rw (← a, ← o, ← e) (c .before .before .write-entry .ensures)))
+    (rw (← a) (rw i), (rw (← a, ← o, ← e) (m .move-atom .ensures), rw (← a, ← o, ← e) (c .before .before .write-entry .ensures)))
 
 pub change-owner-spec : {M : Type 1} → statement M
 change-owner-spec =
     tie.close
     (tie.spec
     atom-at-requires
-    cast-atom
+    owner-index-requires
     mul-owner
-    add-owner
-    mul-owner-2
     element-write-owner
     via-of-requires
     via-of-requires-2

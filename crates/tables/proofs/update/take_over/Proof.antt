@@ -1,6 +1,6 @@
 -- `update::take_over` meets its contract. The loop's invariant: the places from f to below p are swept, and the list is as long as it was. Assumes nothing.
 use mathlib.Core.Path.{_≡_, refl, _∙_}
-use Prim.Native.Nat.{_-_, _≤_}
+use Prim.Native.Nat.{_-_, _≤_, _<_}
 use native.Mathlib.Omega.{arith}
 use lib.ListN.{length}
 use Rattle.tables.specs.Sweep.{ownerBy, raised, SweptAll}
@@ -17,44 +17,45 @@ Inv-loop rule cut number label₀ owner₀ list₀ n v mine rank end p₀ k₀ l
 abbrev μ-loop : tie.MeasureT-loop
 μ-loop rule cut number label₀ owner₀ list₀ n v mine rank end p₀ k₀ label owner list p k = end - p
 
+-- in the loop p is below t
+below : (i : tie.In-loop Inv-loop μ-loop) → i .before .loop .p < i .before .before .before .before .args .t .0
+below i = rw (i .before .before .end-of .ensures) at (i .loop-test .taken)
+
+end-of-requires : tie.Need-end-of-requires Inv-loop μ-loop
+end-of-requires c κs = search needs
+
 loop-holds : tie.Need-loop-holds Inv-loop μ-loop
-loop-holds c = (search needs, c .before .pre .0 .order, refl, swept-none)
+loop-holds c = (search needs, omega (arith, c .before .before .pre .0 .order), refl, swept-none)
 
-mul-atom : tie.Need-mul-atom Inv-loop μ-loop
-mul-atom c = search needs
+atom-at-requires : tie.Need-atom-at-requires Inv-loop μ-loop
+atom-at-requires c κs = search needs
 
-element-copy-out-atom : tie.Need-element-copy-out-atom Inv-loop μ-loop
-element-copy-out-atom c = search needs
-
-cast-atom : tie.Need-cast-atom Inv-loop μ-loop
-cast-atom c = omega (arith, small (c .before .before .before .before .pre .0) (c .before .loop-test .taken))
+owner-index-requires : tie.Need-owner-index-requires Inv-loop μ-loop
+owner-index-requires c κs =
+    let r = c .before .before .before .before .before .pre .0 in
+    (rw (c .atom-at .ensures) (small r (below (c .before))), r .node)
 
 mul-old : tie.Need-mul-old Inv-loop μ-loop
-mul-old c = omega (arith, small (c .before .before .before .before .pre .0) (c .before .loop-test .taken))
-
-add-old : tie.Need-add-old Inv-loop μ-loop
-add-old c = omega (arith, small (c .before .before .before .before .pre .0) (c .before .loop-test .taken))
-
-mul-old-2 : tie.Need-mul-old-2 Inv-loop μ-loop
-mul-old-2 c = omega (arith, small (c .before .before .before .before .pre .0) (c .before .loop-test .taken))
+mul-old c = search needs
 
 element-copy-out-old : tie.Need-element-copy-out-old Inv-loop μ-loop
-element-copy-out-old c = omega (arith, small (c .before .before .before .before .pre .0) (c .before .loop-test .taken))
+element-copy-out-old c = search needs
 
 higher-requires : tie.Need-higher-requires Inv-loop μ-loop
 higher-requires c κs =
-    let s = c .before .before .before .before .before in
-    let l = c .before .before .before .loop .inv in
+    let a = c .before .before in
+    let i = a .before in
+    let l = i .before .loop .inv in
+    let s = i .before .before .before .before in
     let r = s .pre .0 in
-    let below = c .before .before .loop-test .taken in
-    let e = swept-reads r (l .0) below (l .3) in
-    λ n. (rw e (s .pre .1 .from _ _ (small r below) (r .node) (λ z. n (e ∙ z))), rw e (s .pre .1 .upto _ _ (small r below) (r .node)))
+    let e = swept-reads r (l .0) (below i) (l .3) (a .atom-at .ensures) (c .before .owner-index .ensures .0) in
+    λ n. (rw e (s .pre .1 .from _ _ (small r (below i)) (r .node) (λ z. n (e ∙ z))), rw e (s .pre .1 .upto _ _ (small r (below i)) (r .node)))
 
 settle-requires : tie.Need-settle-requires Inv-loop μ-loop
 settle-requires c κs =
-    let i = c .before .before .before .before .before .before in
+    let i = c .before .before .before .before .before .before .before in
     let l = i .before .loop .inv in
-    may-settle (i .before .before .before .pre .0) (l .0) (i .loop-test .taken) (l .3) (l .2)
+    may-settle (i .before .before .before .before .pre .0) (l .0) (below i) (l .3) (l .2)
 
 add-p : tie.Need-add-p Inv-loop μ-loop
 add-p c = search needs
@@ -65,14 +66,15 @@ loop-less c = search needs
 loop-again : tie.Need-loop-again Inv-loop μ-loop
 loop-again c =
     let x = c .before .before .before .before .before .before in
-    let i = x .before .before .before in
+    let o = x .before .before in
+    let i = o .before .before in
     let l = i .before .loop .inv in
-    let r = i .before .before .before .pre .0 in
-    let e = swept-reads r (l .0) (i .loop-test .taken) (l .3) in (
+    let r = i .before .before .before .before .pre .0 in
+    let e = swept-reads r (l .0) (below i) (l .3) (o .before .atom-at .ensures) (o .owner-index .ensures .0) in (
       search needs,
       search needs,
       c .before .before .settle .ensures .room ∙ l .2,
-      swept-settled r (l .0) (i .loop-test .taken) (l .3) e (rw e at (x .higher .ensures)) (c .before .before .settle .ensures),
+      swept-settled r (l .0) (below i) (l .3) e (rw e at (x .higher .ensures)) (c .before .before .settle .ensures),
     )
 
 same-length : tie.Need-same-length Inv-loop μ-loop
@@ -80,7 +82,7 @@ same-length c = c .before .loop .inv .2
 
 returns : tie.Need-returns Inv-loop μ-loop
 returns c =
-    let e : c .before .loop .p ≡ c .before .before .before .args .t .0 = search needs in
+    let e : c .before .loop .p ≡ c .before .before .before .before .args .t .0 = search needs in
     rw e at (c .before .loop .inv .3)
 
 pub take-over-spec : {M : Type 1} → statement M
@@ -89,13 +91,11 @@ take-over-spec =
     (tie.spec
     Inv-loop
     μ-loop
+    end-of-requires
     loop-holds
-    mul-atom
-    element-copy-out-atom
-    cast-atom
+    atom-at-requires
+    owner-index-requires
     mul-old
-    add-old
-    mul-old-2
     element-copy-out-old
     higher-requires
     settle-requires

@@ -11,6 +11,9 @@ use Rattle.tables.proofs.update.write_entry.Tie as tie
 mul-i : tie.Need-mul-i
 mul-i c = search needs
 
+cast-list : tie.Need-cast-list
+cast-list c = search needs
+
 mul-list : tie.Need-mul-list
 mul-list c = search needs
 
@@ -57,13 +60,14 @@ same-length : tie.Need-same-length
 same-length c = search needs
 
 returns : tie.Need-returns
-returns c = wrote (now (c .args .list)) (5 * c .args .k) _ _ _ _ _ (omega arith)
+returns c = wrote (now (c .before .args .list)) (5 * c .before .args .k) _ _ _ _ _ (omega arith)
 
 pub write-entry-spec : {M : Type 1} → statement M
 write-entry-spec =
     tie.close
     (tie.spec
     mul-i
+    cast-list
     mul-list
     slice-write-list
     add-list
