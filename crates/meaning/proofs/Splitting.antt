@@ -23,19 +23,19 @@ use Rattle.meaning.proofs.Kept.{keeps-cut}
 use Rattle.meaning.proofs.Exchange.{winner-same}
 use Rattle.meaning.proofs.Owners.{ownerIn, via, Owned, Agrees, Whole}
 use Rattle.meaning.proofs.Members.{any-one}
-use Rattle.meaning.proofs.Labelled as labelled
+use Rattle.meaning.proofs.Labelled.{source-small, via-none, starts as owner-starts}
 
 -- an owner at a node other than a link's source does not name the link
 module _ (m : State) (label owner : List ℕ) (W : Whole m label owner) (k : ℕ) (hk : k < 512) (l : ℕ) (hl : l < 64) where
   only-source : anyBelow 16 (λ v. eqb (via (ownerIn owner k v)) l) ≡ eqb (via (ownerIn owner k (sourceOf m l))) l
   unfolding sourceOf
-  only-source = any-one (λ v. eqb (via (ownerIn owner k v)) l) 16 (sourceOf m l) (labelled.source-small m (W .sound) l) only
+  only-source = any-one (λ v. eqb (via (ownerIn owner k v)) l) 16 (sourceOf m l) (source-small m (W .sound) l) only
     where
       only : (v : ℕ) → v < 16 → eqb (via (ownerIn owner k v)) l ≡ true → v ≡ sourceOf m l
       only v hv e =
           let d = eqb-true (via (ownerIn owner k v)) l e in
-          let z : ownerIn owner k v ≡ 0 → ⊥ = λ q. omega (arith, ap via q, labelled.via-none) in
-          sym (labelled.starts m label owner W .here k v hk hv z) ∙ ap (λ (x : ℕ). getD (m .link) x 0 / 1024) d
+          let z : ownerIn owner k v ≡ 0 → ⊥ = λ q. omega (arith, ap via q, via-none) in
+          sym (owner-starts m label owner W .here k v hk hv z) ∙ ap (λ (x : ℕ). getD (m .link) x 0 / 1024) d
 
 module _ (m : State) (b : ℕ) where
   -- rules and links are the same, so winners and their words are
@@ -129,14 +129,14 @@ module _ (m : State) (b : ℕ) (label label′ owner owner′ : List ℕ) (W : W
       go l k hl hk (no d) =
           bits l k hl hk ∙ ap (λ (t : Bool). on label l k || (t && anyBelow 16 (λ v. eqb (via (ownerIn owner old v)) l))) (ne-eqb k n d) ∙ or-false (on label l k)
           ∙ W .agrees .bits l k hl hk
-          ∙ ap (λ (x : ℕ). eqb (via x) l) (sym (else k (sourceOf m l) hk (labelled.source-small m (W .sound) l) d))
+          ∙ ap (λ (x : ℕ). eqb (via x) l) (sym (else k (sourceOf m l) hk (source-small m (W .sound) l) d))
       go l k hl hk (yes e) =
           let none : on label l k ≡ false = W .agrees .bits l k hl hk
-          ∙ ap (λ (x : ℕ). eqb (via x) l) (W .owned .rest k (sourceOf m l) (omega arith) hk (labelled.source-small m (W .sound) l))
-          ∙ ap (λ (x : ℕ). eqb x l) labelled.via-none ∙ ne-eqb 64 l (λ q. omega arith) in
+          ∙ ap (λ (x : ℕ). eqb (via x) l) (W .owned .rest k (sourceOf m l) (omega arith) hk (source-small m (W .sound) l))
+          ∙ ap (λ (x : ℕ). eqb x l) via-none ∙ ne-eqb 64 l (λ q. omega arith) in
           bits l k hl hk ∙ ap₂ (λ (s t : Bool). s || (t && anyBelow 16 (λ v. eqb (via (ownerIn owner old v)) l))) none (eq-eqb k n e)
           ∙ only-source m label owner W old old-small l hl
-          ∙ ap (λ (x : ℕ). eqb (via x) l) (sym (row (sourceOf m l) (labelled.source-small m (W .sound) l)) ∙ ap (λ (x : ℕ). ownerIn owner′ x (sourceOf m l)) (sym e))
+          ∙ ap (λ (x : ℕ). eqb (via x) l) (sym (row (sourceOf m l) (source-small m (W .sound) l)) ∙ ap (λ (x : ℕ). ownerIn owner′ x (sourceOf m l)) (sym e))
 
   -- THE LAW: the box is in order again
   pub split-whole : Whole (withCut m b) label′ owner′

@@ -22,7 +22,8 @@ use Rattle.meaning.proofs.Sound.{Sound}
 use Rattle.meaning.proofs.Owners.{ownerIn, via, Owned, Whole, Listed, Numbered}
 use Rattle.meaning.proofs.Ranks.{take-first, take-higher, keep-lower}
 use Rattle.meaning.proofs.Labelled.{starts, owner-numbered}
-use Rattle.meaning.proofs.OneRule.{Joined, Differ, Spans, differ-in, differ-out, in-span, node-small, winner-le, never, stays, joined, owner-alike, owner-once, via-owner, owner-source, listTo, list-none, list-more, list-still, entries-length, same-places, same-entries}
+use Rattle.meaning.proofs.Ends.{entries-length}
+use Rattle.meaning.proofs.OneRule.{Joined, Differ, Spans, differ-in, differ-out, in-span, node-small, winner-le, never, stays, joined, owner-alike, owner-once, via-owner, owner-source, listTo, list-none, list-more, list-still, same-places, same-entries}
 use Rattle.tables.specs.Gathered.{Gathers, bestIn}
 use Rattle.tables.specs.Rows.{Split}
 use Rattle.tables.specs.Sweep.{Ready, SweptAll, entriesFrom, ownerBy, ownerFor, raised, heirOf}
