@@ -16,7 +16,7 @@ ghost use Rattle.meaning.specs.Records.{phaseOf};
 ghost use Rattle.meaning.specs.Step.{checked, refusal};
 ghost use Rattle.meaning.specs.Box.{stateOf, Held, left, leftFor, leftOf};
 ghost use Rattle.meaning.specs.declared.Read.the-variants.{Got};
-ghost use Rattle.meaning.proofs.Boxes.{takes};
+ghost use Rattle.lent.specs.Steps.{takes};
 ghost use Rattle.meaning.specs.declared.Record.the-variants.{Hall as aHall, Link as aLink, Close as aClose};
 
 // The phase that a record belongs in.

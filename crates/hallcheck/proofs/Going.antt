@@ -14,10 +14,10 @@ use Rattle.meaning.specs.Run.{start}
 use Rattle.meaning.specs.Questions.{byAddress}
 use Rattle.meaning.specs.Step.{stepOf}
 use Rattle.meaning.specs.Box.{Held, left, leftOf}
-use Rattle.meaning.proofs.Ends.{passed-few}
-use Rattle.meaning.proofs.Boxes.{left-said, left-passed, held-after}
-use Rattle.meaning.proofs.Said.{said-once}
-use Rattle.meaning.proofs.Stops.{lists}
+use Rattle.meaning.proofs.records.Passed.{passed-few}
+use Rattle.lent.proofs.Steps.{left-said, left-passed, held-after}
+use Rattle.meaning.proofs.records.Said.{said-once}
+use Rattle.meaning.proofs.document.Runs.{lists}
 use Rattle.hallcheck.specs.Room.{Room, Listed}
 
 -- before a record: the box came from a fresh one, both places lie within, and there is room in the list and in the output

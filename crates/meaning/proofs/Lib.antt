@@ -1,67 +1,19 @@
--- The laws of document 01's definitions, by subject. Assumes nothing.
--- First the three demands, and that they hold:
-pub mod Demands
-pub mod DemandsHold
-pub mod Example
--- then the laws that a reader looks for, in the document's order:
-pub mod Winners
-pub mod Declared
-pub mod Standing
-pub mod Covering
-pub mod Boundaries
-pub mod Inner
-pub mod Numbering
-pub mod Updates
-pub mod Lists
-pub mod Spread
-pub mod Undone
-pub mod Moves
-pub mod Fates
-pub mod Asked
-pub mod Twins
-pub mod Swapped
-pub mod Renumbered
-pub mod Outcomes
-pub mod Steps
-pub mod Stops
-pub mod Taking
-pub mod Said
-pub mod Once
-pub mod Listing
-pub mod Sides
--- and then what they stand on, and what the code's proofs cite
-pub mod Tables
-pub mod Insert
-pub mod Places
-pub mod Parted
-pub mod Constant
-pub mod Words
-pub mod Checks
-pub mod Sound
-pub mod Kept
-pub mod Agree
-pub mod Members
-pub mod Moving
-pub mod ByPlace
-pub mod Searches
-pub mod Pigeon
-pub mod Walks
-pub mod Circles
-pub mod Ranks
-pub mod Means
-pub mod Ends
-pub mod Exchange
-pub mod Owners
-pub mod Boxes
-pub mod Replies
-pub mod Bits
-pub mod Below
-pub mod LabelWords
-pub mod Idle
-pub mod Numbered
-pub mod Labelled
-pub mod Carried
-pub mod Reading
-pub mod Begins
-pub mod Splitting
-pub mod OneRule
+-- The laws of document 01's definitions, a room a subject; each room's file is a tour of it. Assumes nothing.
+-- The demands, and what a reader of the document looks for:
+-- the three demands, and that they hold
+pub mod demands
+-- what a reader of document 01 looks for, in its order
+pub mod document
+-- and what they stand on, from the top down:
+-- every state that came by records is in order
+pub mod sound
+-- boundaries, places, numbers, labels and the change list
+pub mod atoms
+-- reading a record, its checks, and one step
+pub mod records
+-- the walk of one packet, over any next link and any ends
+pub mod walk
+-- a rule's word, its rank and what it covers
+pub mod rules
+-- numbers, searches, bits and lists, of no hall in particular
+pub mod base

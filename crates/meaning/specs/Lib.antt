@@ -15,5 +15,7 @@ pub mod Run
 pub mod Answers
 -- how the box works things out, which need not be believed
 pub mod Working
+-- what it is for tables and states to be in order
+pub mod Tables
 -- and the box as it is lent
 pub mod Box

@@ -20,16 +20,17 @@ use Rattle.meaning.specs.Hall.{State}
 use Rattle.meaning.specs.Labels.{bit, on}
 use Rattle.meaning.specs.Questions.{byAddress}
 use Rattle.meaning.specs.Walk.{at, leave, move, after, standsAt, onCircle, comesTo}
-use Rattle.meaning.proofs.Places.{le-or-lt}
-use Rattle.meaning.proofs.Bits.{bit-lt, zero-bits, or-none, or-bits, not-bits}
-use Rattle.meaning.proofs.Members.{any-true, any-some}
-use Rattle.meaning.proofs.Means.{stands-at, at-stands}
-use Rattle.meaning.proofs.Walks.{after-add, after-suc, going-le}
-use Rattle.meaning.proofs.Circles.{round-again}
-use Rattle.meaning.proofs.Owners.{ownerIn, via, nextIn, endIn, Whole}
-use Rattle.meaning.proofs.Moving.{among, in-none, in-all, in-either, in-both, in-alone, in-new, in-old, Off, NotYet, no-owner, to-node, to-end}
-use Rattle.meaning.proofs.Labelled.{via-named, starts}
-use Rattle.meaning.proofs.ByPlace.{small-atom, ends-of, loop-none, reach-none}
+use Rattle.meaning.proofs.base.Order.{le-or-lt}
+use Rattle.meaning.proofs.base.Bits.{bit-lt, zero-bits, or-none, or-bits, not-bits}
+use Rattle.meaning.proofs.base.Search.{any-true, any-some}
+use Rattle.meaning.proofs.walk.Tests.{stands-at, at-stands}
+use Rattle.meaning.proofs.walk.Walks.{after-add, after-suc, going-le}
+use Rattle.meaning.proofs.walk.Circles.{round-again}
+use Rattle.lent.specs.Owners.{ownerIn, via, nextIn, endIn, Whole}
+use Rattle.lent.specs.Nodes.{among, Off}
+use Rattle.lent.proofs.Walking.{in-none, in-all, in-either, in-both, in-alone, in-new, in-old, NotYet, no-owner, to-node, to-end}
+use Rattle.lent.proofs.Labelled.{via-named, starts}
+use Rattle.lent.proofs.Questions.{small-atom, ends-of, loop-none, reach-none}
 use Rattle.questions.specs.Moves.{Comes}
 use Rattle.questions.specs.Leads.{Empty, leadsTo, Leads, LetLead, Circular, OffLeads, Met, Widened, TowardLeads, Together, OffWalks, TowardWalks}
 

@@ -18,15 +18,16 @@ use Rattle.meaning.specs.Hall.{zeroes, State}
 use Rattle.meaning.specs.Labels.{bit, on}
 use Rattle.meaning.specs.Walk.{at, move, after, fateIn}
 use Rattle.meaning.specs.Questions.{isOut, isLost}
-use Rattle.meaning.proofs.Exchange.{eqb-comm}
-use Rattle.meaning.proofs.Owners.{nextIn, endIn, Words, Whole}
-use Rattle.meaning.proofs.Walks.{after-suc, going-down}
-use Rattle.meaning.proofs.Idle.{any-off}
-use Rattle.meaning.proofs.Moving.{among, in-none, step-to}
-use Rattle.meaning.proofs.Carried.{sourceIn, Carries, Reached, Within, leavesBy, goesOn, lostAt, moved-by, moves-on, carries-of, out-is, lost-is}
-use Rattle.meaning.proofs.LabelWords.{trailing-below, trailing-at}
-use Rattle.meaning.proofs.Members.{any-more, and-both, or-either, or-neither}
-use Rattle.meaning.proofs.Bits.{zero-bits, set-bit, clear-bit, shifted, or-bits, and-bits, without-bits, ones-bits, or-none, xor-none}
+use Rattle.meaning.proofs.base.Order.{eqb-comm}
+use Rattle.lent.specs.Owners.{nextIn, endIn, Words, Whole}
+use Rattle.meaning.proofs.walk.Walks.{after-suc, going-down}
+use Rattle.meaning.proofs.base.Search.{any-off, any-more, and-both, or-either, or-neither}
+use Rattle.lent.specs.Nodes.{among}
+use Rattle.lent.proofs.Walking.{in-none, step-to}
+use Rattle.lent.specs.Sets.{sourceIn, Carries, Reached, Within, leavesBy, goesOn, lostAt}
+use Rattle.lent.proofs.Sets.{moved-by, moves-on, carries-of, out-is, lost-is}
+use Rattle.lent.proofs.LabelWords.{trailing-below, trailing-at}
+use Rattle.meaning.proofs.base.Bits.{zero-bits, set-bit, clear-bit, shifted, or-bits, and-bits, without-bits, ones-bits, or-none, xor-none}
 use Rattle.questions.specs.Standing.{Declared, Filled, JoinedRow, TakenAway, Kept, Took, Leaving, SettledBut, Along, Round, Spread, Outward, Stayed, GatheredRow, Gathered, Divided}
 
 -- a box in order has links that start at nodes

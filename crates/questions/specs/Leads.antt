@@ -5,8 +5,8 @@ use mathlib.Core.List.{List}
 use Prim.Native.Nat.{ℕ, _/_, _%_, _<_}
 use lib.ListN.{getD}
 use Rattle.meaning.specs.Labels.{on}
-use Rattle.meaning.proofs.Owners.{nextIn, endIn, Agrees, Starts, Ends}
-use Rattle.meaning.proofs.Moving.{among, Off}
+use Rattle.lent.specs.Owners.{nextIn, endIn, Agrees, Starts, Ends}
+use Rattle.lent.specs.Nodes.{among, Off}
 use Rattle.questions.specs.Moves.{Comes}
 
 -- ---- leads

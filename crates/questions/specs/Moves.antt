@@ -4,8 +4,8 @@ use mathlib.Core.Bool.{true, false}
 use mathlib.Core.Option.{Option}
 use Prim.Native.Nat.{ℕ, _<_}
 use Rattle.meaning.specs.Walk.{Place, at, onCircle}
-use Rattle.meaning.proofs.Walks.{Reaches}
-use Rattle.meaning.proofs.Moving.{among, Off}
+use Rattle.meaning.proofs.walk.Walks.{Reaches}
+use Rattle.lent.specs.Nodes.{among, Off}
 use Rattle.questions.specs.declared.walk.Led.{Led}
 use Rattle.questions.specs.declared.walk.Led.the-variants.{To, Ended}
 use Rattle.questions.specs.declared.walk.Seen.{Seen}

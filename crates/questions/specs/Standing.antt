@@ -11,9 +11,9 @@ use Rattle.meaning.specs.Search.{anyBelow}
 use Rattle.meaning.specs.Labels.{on}
 use Rattle.meaning.specs.Questions.{isOut, isLost}
 use Rattle.meaning.specs.Walk.{fateIn}
-use Rattle.meaning.proofs.Owners.{nextIn, endIn}
-use Rattle.meaning.proofs.Moving.{among}
-use Rattle.meaning.proofs.Carried.{sourceIn, Carries, Reached, Within, leavesBy, goesOn}
+use Rattle.lent.specs.Owners.{nextIn, endIn}
+use Rattle.lent.specs.Nodes.{among}
+use Rattle.lent.specs.Sets.{sourceIn, Carries, Reached, Within, leavesBy, goesOn}
 
 -- the links below `links` start at nodes
 pub record Declared (link : List ℕ) (links : ℕ) : Type 0 where

@@ -14,7 +14,7 @@ ghost use Rattle.meaning.specs.Step.{replyTo};
 ghost use Rattle.meaning.specs.Answers.{said};
 ghost use Rattle.meaning.specs.declared.Record.the-variants.{Loop as askLoop, Reach as askReach, Tally as askTally};
 ghost use Rattle.meaning.specs.Hall.{top};
-ghost use Rattle.meaning.proofs.Owners.{Words, Whole};
+ghost use Rattle.lent.specs.Owners.{Words, Whole};
 ghost use Rattle.questions.specs.Tallied.{Counted};
 
 // What becomes of a packet to address a from node v.

@@ -8,7 +8,7 @@ ghost use Prim.Native.Nat.{ℕ, _<_, _≤_};
 ghost use lib.ListN.{length};
 ghost use Rattle.meaning.specs.Hall.{zeroes};
 ghost use Rattle.meaning.specs.Labels.{on};
-ghost use Rattle.meaning.proofs.Owners.{Words};
+ghost use Rattle.lent.specs.Owners.{Words};
 ghost use Rattle.questions.specs.Standing.{Declared, Filled, JoinedRow, TakenAway, Leaving, Along, SettledBut, Round, Spread, Outward, Stayed, GatheredRow, Gathered, Divided};
 
 // Whether an atom is in a row.

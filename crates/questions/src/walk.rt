@@ -5,8 +5,8 @@ ghost use mathlib.Core.Bool.{true, false};
 ghost use mathlib.Core.Path.{_≡_};
 ghost use Prim.Native.Nat.{ℕ, _+_, _-_, _<_, _≤_};
 ghost use Rattle.meaning.specs.Walk.{at, move, arrive, told, fateIn, comesTo};
-ghost use Rattle.meaning.proofs.Owners.{ownerIn, nextIn, endIn, Ends};
-ghost use Rattle.meaning.proofs.Moving.{among, Off};
+ghost use Rattle.lent.specs.Owners.{ownerIn, nextIn, endIn, Ends};
+ghost use Rattle.lent.specs.Nodes.{among, Off};
 ghost use Rattle.questions.specs.Moves.{led, seen, Below, Comes};
 
 // Where one move leads: to a node, or to an end.

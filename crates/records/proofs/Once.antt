@@ -5,7 +5,7 @@ use mathlib.Core.List.{List}
 use Prim.Native.Nat.{ℕ}
 use denote.Ref.{RefT}
 use Rattle.meaning.specs.declared.Read.{Read}
-use Rattle.meaning.proofs.Said.{read-once}
+use Rattle.meaning.proofs.records.Said.{read-once}
 use Rattle.records.specs.declared.reader.Reader.{Reader}
 use Rattle.records.specs.Readers.{Next, next, nextOf}
 

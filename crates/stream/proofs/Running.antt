@@ -18,8 +18,8 @@ use Rattle.meaning.specs.Questions.{byAddress}
 use Rattle.meaning.specs.Step.{Done, stepOf}
 use Rattle.meaning.specs.Run.{Ran, runFrom, runOf, Came, start}
 use Rattle.meaning.specs.Box.{Held, Left, left, leftBy, leftOf, ranBy, ranOf}
-use Rattle.meaning.proofs.Ends.{passed-few}
-use Rattle.meaning.proofs.Boxes.{left-passed, left-state, left-list, held-after}
+use Rattle.meaning.proofs.records.Passed.{passed-few}
+use Rattle.lent.proofs.Steps.{left-passed, left-state, left-list, held-after}
 
 -- after some records, at a place of the bytes: the box is held, and what is left to run is the run
 pub record Running (bytes list₀ : List ℕ) (m : State) (label owner list : List ℕ) (at past : ℕ) : Type 0 where

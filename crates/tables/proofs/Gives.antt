@@ -11,9 +11,9 @@ use lib.ListN.{length, set, length-set}
 use lib.Seq.{getD-set-same, getD-set-other}
 use Rattle.meaning.specs.Search.{anyBelow}
 use Rattle.meaning.specs.Labels.{on}
-use Rattle.meaning.proofs.Exchange.{eqb-comm}
-use Rattle.meaning.proofs.Owners.{ownerIn, via}
-use Rattle.meaning.proofs.Labelled.{via-named, unnamed}
+use Rattle.meaning.proofs.base.Order.{eqb-comm}
+use Rattle.lent.specs.Owners.{ownerIn, via}
+use Rattle.lent.proofs.Labelled.{via-named, unnamed}
 use Rattle.tables.specs.Bits.{Put}
 use Rattle.tables.specs.Rows.{Given}
 

@@ -11,7 +11,7 @@ use lib.ListN.{length, getD, set}
 use borrow.Author.Tests.{eq-eqb, ne-eqb}
 use Rattle.meaning.specs.Search.{pick}
 use Rattle.meaning.specs.Labels.{on}
-use Rattle.meaning.proofs.LabelWords.{on-with, on-without}
+use Rattle.lent.proofs.LabelWords.{on-with, on-without}
 use Rattle.tables.specs.Bits.{Put, TakenOff, Moved}
 
 -- a bit set puts an atom on a link, and a bit cleared takes one off

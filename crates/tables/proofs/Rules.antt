@@ -23,14 +23,14 @@ use Rattle.meaning.specs.Step.{ragged, clashes, added, refusal}
 use Rattle.meaning.specs.Rule.{ruleWord, live, linkOf, rank, lower, upper, covers, overlap}
 use Rattle.meaning.specs.Hall.{State, sourceOf}
 use Rattle.meaning.specs.Winner.{better, ruleAt, eligible, winner}
-use Rattle.meaning.proofs.Places.{le-or-lt}
-use Rattle.meaning.proofs.Words.{RuleFits, link-of}
-use Rattle.meaning.proofs.Checks.{rule-clashes, cuts-many, passes}
-use Rattle.meaning.proofs.Ranks.{keep-out, take-first, take-higher, keep-lower}
-use Rattle.meaning.proofs.Members.{and-both}
-use Rattle.meaning.proofs.Means.{both-cover, Winner, wins}
-use Rattle.meaning.proofs.Idle.{any-off}
-use Rattle.meaning.proofs.Sound.{Sound}
+use Rattle.meaning.proofs.base.Order.{le-or-lt}
+use Rattle.meaning.proofs.rules.Words.{RuleFits, link-of}
+use Rattle.meaning.proofs.records.Checks.{rule-clashes, cuts-many, passes}
+use Rattle.meaning.proofs.rules.Ranks.{keep-out, take-first, take-higher, keep-lower}
+use Rattle.meaning.proofs.base.Search.{and-both, any-off}
+use Rattle.meaning.proofs.rules.Covers.{both-cover}
+use Rattle.meaning.proofs.sound.Winner.{Winner, wins}
+use Rattle.meaning.specs.Tables.{Sound}
 use Rattle.tables.specs.Gathered.{standing, tying, bestIn, maskOf, Marks, IsAmong, Gathering, Gathers}
 
 -- ---- standing, covering, overlapping and tying, by the tests on the way

@@ -8,11 +8,10 @@ use lib.ListN.{getD}
 use borrow.Author.Tests.{eq-eqb, ne-eqb}
 use Rattle.meaning.specs.Hall.{top, State}
 use Rattle.meaning.specs.Atoms.{placeOf, isCut, insertAt, splitCut, splitNumber, splitCount, withCut}
-use Rattle.meaning.proofs.Tables.{Cuts}
-use Rattle.meaning.proofs.Parted.{within}
-use Rattle.meaning.proofs.Owners.{Whole}
-use Rattle.meaning.proofs.Numbering.{cut-old}
-use Rattle.meaning.proofs.Splitting.{split-whole}
+use Rattle.meaning.specs.Tables.{Cuts}
+use Rattle.meaning.proofs.atoms.Splits.{within, cut-old}
+use Rattle.lent.specs.Owners.{Whole}
+use Rattle.lent.proofs.Splitting.{split-whole}
 use Rattle.tables.specs.Rows.{Split, Given}
 
 -- the place that was looked up decides

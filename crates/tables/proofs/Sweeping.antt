@@ -13,10 +13,10 @@ use borrow.Author.Tests.{eq-eqb, ne-eqb}
 use Rattle.meaning.specs.Search.{pick}
 use Rattle.meaning.specs.Labels.{on}
 use Rattle.meaning.specs.Changes.{overwrite}
-use Rattle.meaning.proofs.Tables.{Numbers}
-use Rattle.meaning.proofs.Members.{one-place}
-use Rattle.meaning.proofs.Owners.{ownerIn, via, Agrees}
-use Rattle.meaning.proofs.Labelled.{via-none}
+use Rattle.meaning.specs.Tables.{Numbers}
+use Rattle.meaning.proofs.atoms.Numbers.{one-place}
+use Rattle.lent.specs.Owners.{ownerIn, via, Agrees}
+use Rattle.lent.proofs.Labelled.{via-none}
 use Rattle.tables.specs.Bits.{Moved}
 use Rattle.tables.specs.Sweep.{Swept, entriesFrom, Wrote, ownerBy, Settled, Ready, SweptAll}
 

@@ -18,12 +18,13 @@ use Rattle.meaning.specs.Working.{ownerWord}
 use Rattle.meaning.specs.Changes.{linkOrNone, changedAt, entryAt, entriesAt, overwrite}
 use Rattle.meaning.specs.Atoms.{withCut}
 use Rattle.meaning.specs.Step.{withRule, listed}
-use Rattle.meaning.proofs.Sound.{Sound}
-use Rattle.meaning.proofs.Owners.{ownerIn, via, Owned, Whole, Listed, Numbered}
-use Rattle.meaning.proofs.Ranks.{take-first, take-higher, keep-lower}
-use Rattle.meaning.proofs.Labelled.{starts, owner-numbered}
-use Rattle.meaning.proofs.Ends.{entries-length}
-use Rattle.meaning.proofs.OneRule.{Joined, Differ, Spans, differ-in, differ-out, in-span, node-small, winner-le, never, stays, joined, owner-alike, owner-once, via-owner, owner-source, listTo, list-none, list-more, list-still, same-places, same-entries}
+use Rattle.meaning.specs.Tables.{Sound}
+use Rattle.lent.specs.Owners.{ownerIn, via, Owned, Whole, Listed, Numbered}
+use Rattle.meaning.proofs.rules.Ranks.{take-first, take-higher, keep-lower}
+use Rattle.lent.proofs.Labelled.{starts, owner-numbered}
+use Rattle.meaning.proofs.atoms.ChangeList.{entries-length, listTo, list-none, list-more, list-still, same-places, same-entries}
+use Rattle.meaning.proofs.sound.OneRule.{Joined, winner-le, never, stays, joined, owner-alike}
+use Rattle.lent.proofs.OwnerRules.{Differ, Spans, differ-in, differ-out, in-span, node-small, owner-once, via-owner, owner-source}
 use Rattle.tables.specs.Gathered.{Gathers, bestIn}
 use Rattle.tables.specs.Rows.{Split}
 use Rattle.tables.specs.Sweep.{Ready, SweptAll, entriesFrom, ownerBy, ownerFor, raised, heirOf}

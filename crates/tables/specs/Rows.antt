@@ -8,7 +8,7 @@ use lib.ListN.{length}
 use Rattle.meaning.specs.Search.{anyBelow}
 use Rattle.meaning.specs.Atoms.{splitCut, splitNumber, splitCount}
 use Rattle.meaning.specs.Labels.{on}
-use Rattle.meaning.proofs.Owners.{ownerIn, via}
+use Rattle.lent.specs.Owners.{ownerIn, via}
 
 -- b is made a boundary
 pub record Split (cut number : List ℕ) (n b : ℕ) (cut′ number′ : List ℕ) (r : ℕ) : Type 0 where

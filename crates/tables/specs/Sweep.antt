@@ -10,8 +10,8 @@ use lib.ListN.{length, getD, set, take, drop}
 use Rattle.meaning.specs.Search.{pick}
 use Rattle.meaning.specs.Changes.{overwrite}
 use Rattle.meaning.specs.Rule.{linkOf, rank, covers}
-use Rattle.meaning.proofs.Tables.{Numbers}
-use Rattle.meaning.proofs.Owners.{ownerIn, via, Agrees, Starts}
+use Rattle.meaning.specs.Tables.{Numbers}
+use Rattle.lent.specs.Owners.{ownerIn, via, Agrees, Starts}
 use Rattle.tables.specs.Bits.{Moved}
 use Rattle.tables.specs.Gathered.{bestIn}
 

@@ -7,8 +7,8 @@ ghost use lib.ListN.{length, getD};
 ghost use Rattle.meaning.specs.Hall.{top, State};
 ghost use Rattle.meaning.specs.Box.{AtomsHeld};
 ghost use Rattle.meaning.specs.Atoms.{placeOf, isCut, insertAt, withCut};
-ghost use Rattle.meaning.proofs.Tables.{Cuts, Numbers};
-ghost use Rattle.meaning.proofs.Owners.{Whole};
+ghost use Rattle.meaning.specs.Tables.{Cuts, Numbers};
+ghost use Rattle.lent.specs.Owners.{Whole};
 ghost use Rattle.tables.specs.Rows.{Split, Given};
 
 // A place in address order, and the number of an atom: neither tells the other.

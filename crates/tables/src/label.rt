@@ -1,7 +1,7 @@
 // Labels: 512 words, link l's at 8 l to 8 l + 7, and atom k the bit k % 64 of the word k / 64 of these.
 use crate::atom::Atom;
 ghost use Prim.Native.Nat.{_<_, _≤_};
-ghost use Rattle.meaning.proofs.Owners.{Words};
+ghost use Rattle.lent.specs.Owners.{Words};
 ghost use Rattle.tables.specs.Bits.{Put, TakenOff, Moved};
 
 // What the type of a label table says of its list: for callers' proofs.

@@ -19,8 +19,8 @@ ghost use Rattle.meaning.specs.Atoms.{isCut};
 ghost use Rattle.meaning.specs.Step.{checked, refusal, leaves, nodeOf};
 ghost use Rattle.meaning.specs.Box.{stateOf};
 ghost use Rattle.meaning.specs.declared.Record.the-variants.{Insert as insertion, Remove as removal};
-ghost use Rattle.meaning.proofs.Tables.{Cuts, Numbers};
-ghost use Rattle.meaning.proofs.Owners.{via, Numbered, Whole, Listed};
+ghost use Rattle.meaning.specs.Tables.{Cuts, Numbers};
+ghost use Rattle.lent.specs.Owners.{via, Numbered, Whole, Listed};
 ghost use Rattle.tables.specs.Bits.{Moved};
 ghost use Rattle.tables.specs.Sweep.{ownerBy, ownerFor, raised, heirOf, Settled, Ready, SweptAll};
 

@@ -7,8 +7,8 @@ use lib.Count.{ones-le}
 use borrow.Author.Tests.{lt-ltb, le-ltb}
 use Rattle.meaning.specs.Search.{countBelow}
 use Rattle.meaning.specs.Labels.{on, howMany}
-use Rattle.meaning.proofs.Below.{count-le}
-use Rattle.meaning.proofs.LabelWords.{count-word}
+use Rattle.meaning.proofs.base.Search.{count-le}
+use Rattle.lent.proofs.LabelWords.{count-word}
 use borrow.Author.Needs.{needs}
 use Rattle.labels.proofs.atoms_on.Statement.{statement}
 use Rattle.labels.proofs.atoms_on.Tie as tie

@@ -9,8 +9,8 @@ use lib.ListN.{getD}
 use borrow.Author.Tests.{lt-ltb, le-ltb}
 use Rattle.meaning.specs.Search.{found}
 use Rattle.meaning.specs.Labels.{on, lowestOn}
-use Rattle.meaning.proofs.Searches.{lowest-off, lowest-first}
-use Rattle.meaning.proofs.LabelWords.{none-below, there}
+use Rattle.meaning.proofs.base.Search.{lowest-off, lowest-first}
+use Rattle.lent.proofs.LabelWords.{none-below, there}
 use borrow.Author.Needs.{needs}
 use Rattle.labels.proofs.lowest_on.Statement.{statement}
 use Rattle.labels.proofs.lowest_on.Tie as tie

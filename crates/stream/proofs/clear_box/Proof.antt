@@ -1,8 +1,7 @@
 -- `stream::clear_box` meets its contract: tables of zeros are the fresh ones. Assumes nothing.
 use borrow.Author.Needs.{needs}
 use mathlib.Core.Path.{sym, _∙_}
-use Rattle.meaning.proofs.Ends.{fresh-labels}
-use Rattle.meaning.proofs.Labelled.{fresh-owners}
+use Rattle.lent.proofs.Labelled.{fresh-labels, fresh-owners}
 use Rattle.stream.proofs.Clears.{fresh-by, sized}
 use Rattle.stream.proofs.clear_box.Statement.{statement}
 use Rattle.stream.proofs.clear_box.Tie as tie

@@ -1,7 +1,7 @@
 -- `hall::step::act` meets its contract: in each arm what was told of the record turns the part's contract into the whole's. Assumes nothing.
 use mathlib.Core.Path.{sym, _∙_}
 use borrow.Author.Needs.{needs}
-use Rattle.meaning.proofs.Boxes.{reply-leaves}
+use Rattle.lent.proofs.Steps.{reply-leaves}
 use Rattle.hall.proofs.Others.{question, told-leaves}
 use Rattle.hall.proofs.step.act.Statement.{statement}
 use Rattle.hall.proofs.step.act.Tie as tie

@@ -4,7 +4,7 @@ use native.Mathlib.Omega.{arith}
 use Rattle.meaning.specs.declared.Record.the-variants.{Close as aClose}
 use Rattle.meaning.specs.Records.{phaseOf}
 use Rattle.meaning.specs.Step.{refusal, closed, leaves, changes, answers}
-use Rattle.meaning.proofs.Boxes.{opened-takes}
+use Rattle.lent.proofs.Steps.{opened-takes}
 use Rattle.hall.proofs.step.take_close.Statement.{statement}
 use Rattle.hall.proofs.step.take_close.Tie as tie
 

@@ -6,7 +6,7 @@ use borrow.Author.Tests.{eq-eqb, ne-eqb, lt-ltb, le-ltb}
 use Rattle.meaning.specs.declared.Record.the-variants.{Hall as aHall}
 use Rattle.meaning.specs.Records.{phaseOf}
 use Rattle.meaning.specs.Step.{when, refusal, withNodes, leaves, changes, answers}
-use Rattle.meaning.proofs.Boxes.{turned-takes, opened-takes}
+use Rattle.lent.proofs.Steps.{turned-takes, opened-takes}
 use Rattle.hall.proofs.step.take_hall.Statement.{statement}
 use Rattle.hall.proofs.step.take_hall.Tie as tie
 

@@ -9,8 +9,8 @@ use Rattle.meaning.specs.Hall.{linkWord}
 use Rattle.meaning.specs.Records.{phaseOf}
 use Rattle.meaning.specs.Step.{checked, withLink, leaves, changes, answers}
 use Rattle.meaning.specs.Box.{stateOf}
-use Rattle.meaning.proofs.Kept.{ClearLink, clear-link}
-use Rattle.meaning.proofs.Boxes.{turned-takes, opened-takes}
+use Rattle.meaning.proofs.records.Checks.{ClearLink, clear-link}
+use Rattle.lent.proofs.Steps.{turned-takes, opened-takes}
 use Rattle.hall.proofs.step.take_link.Statement.{statement}
 use Rattle.hall.proofs.step.take_link.Tie as tie
 

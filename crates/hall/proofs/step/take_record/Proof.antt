@@ -1,9 +1,9 @@
 -- `hall::step::take_record` meets its contract: too short a list, what was read, the order, and then what the record does. Assumes nothing.
 use mathlib.Core.Path.{refl, sym, _∙_}
 use borrow.Author.Needs.{needs}
-use Rattle.meaning.proofs.Labelled.{held-whole}
-use Rattle.meaning.proofs.Said.{read-once}
-use Rattle.meaning.proofs.Boxes.{short-leaves, end-leaves, unread-leaves, disorder-leaves, order-leaves, read-leaves}
+use Rattle.lent.proofs.Labelled.{held-whole}
+use Rattle.meaning.proofs.records.Said.{read-once}
+use Rattle.lent.proofs.Steps.{short-leaves, end-leaves, unread-leaves, disorder-leaves, order-leaves, read-leaves}
 use Rattle.hall.proofs.step.take_record.Statement.{statement}
 use Rattle.hall.proofs.step.take_record.Tie as tie
 

@@ -4,8 +4,8 @@ use mathlib.Core.Path.{_≡_, refl, sym, _∙_}
 use Prim.Native.Nat.{_+_, _-_, _≤_, _<_}
 use native.Mathlib.Omega.{arith}
 use Rattle.meaning.specs.Box.{stateOf}
-use Rattle.meaning.proofs.Carried.{carries-of}
-use Rattle.meaning.proofs.ByPlace.{Tallied, small-atom, tally-none, tally-fits, tally-more, tally-is}
+use Rattle.lent.proofs.Sets.{carries-of}
+use Rattle.lent.proofs.Questions.{Tallied, small-atom, tally-none, tally-fits, tally-more, tally-is}
 use Rattle.questions.proofs.Standing.{declared-of}
 use Rattle.questions.proofs.ask.count_fates.Statement.{statement}
 use Rattle.questions.proofs.ask.count_fates.Tie as tie

@@ -1,9 +1,9 @@
 -- `ask::fate_from` meets its contract: the fate of the atom that holds the address is the address's. Assumes nothing.
 use borrow.Author.Needs.{needs}
 use native.Mathlib.Omega.{arith}
-use Rattle.meaning.proofs.Labelled.{held-whole}
-use Rattle.meaning.proofs.Places.{place-holds}
-use Rattle.meaning.proofs.ByPlace.{small-atom, ends-of, fate-at}
+use Rattle.lent.proofs.Labelled.{held-whole}
+use Rattle.meaning.proofs.atoms.Cuts.{place-holds}
+use Rattle.lent.proofs.Questions.{small-atom, ends-of, fate-at}
 use Rattle.questions.proofs.ask.fate_from.Statement.{statement}
 use Rattle.questions.proofs.ask.fate_from.Tie as tie
 

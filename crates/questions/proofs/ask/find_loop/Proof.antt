@@ -10,10 +10,10 @@ use native.Mathlib.Nat.{eq-or-lt-of-le}
 use native.Mathlib.Omega.{arith}
 use borrow.Author.Count.{below-more}
 use Rattle.meaning.specs.declared.Answer.the-variants.{NoLoop}
-use Rattle.meaning.proofs.Owners.{nextIn, endIn}
-use Rattle.meaning.proofs.Places.{le-or-lt}
-use Rattle.meaning.proofs.Moving.{among, Off}
-use Rattle.meaning.proofs.ByPlace.{linksAt, NoCircle, small-atom, ends-of, loop-none, loop-is}
+use Rattle.lent.specs.Owners.{nextIn, endIn}
+use Rattle.meaning.proofs.base.Order.{le-or-lt}
+use Rattle.lent.specs.Nodes.{among, Off}
+use Rattle.lent.proofs.Questions.{linksAt, NoCircle, small-atom, ends-of, loop-none, loop-is}
 use Rattle.questions.specs.Moves.{seen, Below, Within}
 use Rattle.questions.proofs.Leads.{together, no-loop}
 use Rattle.questions.proofs.ask.find_loop.Statement.{statement}

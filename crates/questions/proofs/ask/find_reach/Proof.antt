@@ -4,7 +4,7 @@ use mathlib.Core.Path.{sym, _∙_}
 use Prim.Native.Nat.{_-_, _≤_, _<_}
 use native.Mathlib.Omega.{arith}
 use borrow.Author.Count.{below-more}
-use Rattle.meaning.proofs.ByPlace.{NotCome, small-atom, ends-of, reach-none, reach-is}
+use Rattle.lent.proofs.Questions.{NotCome, small-atom, ends-of, reach-none, reach-is}
 use Rattle.questions.proofs.Leads.{together, no-reach}
 use Rattle.questions.proofs.ask.find_reach.Statement.{statement}
 use Rattle.questions.proofs.ask.find_reach.Tie as tie

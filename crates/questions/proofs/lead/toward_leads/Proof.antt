@@ -4,7 +4,7 @@ use mathlib.Core.Path.{_≡_}
 use mathlib.Core.Bool.{true}
 use Prim.Native.Nat.{_-_, _≤_, _<_}
 use native.Mathlib.Omega.{arith}
-use Rattle.meaning.proofs.Moving.{among}
+use Rattle.lent.specs.Nodes.{among}
 use Rattle.questions.proofs.Leads.{toward-start, toward-settled, toward-all}
 use Rattle.questions.proofs.lead.toward_leads.Statement.{statement}
 use Rattle.questions.proofs.lead.toward_leads.Tie as tie

@@ -3,7 +3,7 @@ use Prim.Native.Nat.{_-_, _≤_}
 use mathlib.Core.Path.{_≡_}
 use mathlib.Core.Logic.{⊎-elim}
 use native.Mathlib.Omega.{arith}
-use Rattle.meaning.proofs.Owners.{endIn}
+use Rattle.lent.specs.Owners.{endIn}
 use Rattle.questions.specs.Standing.{Leaving}
 use Rattle.questions.proofs.Standing.{leaving-none, leaving-by, leaving-not}
 use borrow.Author.Needs.{needs}

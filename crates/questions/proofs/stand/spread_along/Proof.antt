@@ -1,7 +1,7 @@
 -- `stand::spread_along` meets its contract: it does nothing, adds nothing, or lets one row grow. Assumes nothing.
 use mathlib.Core.Path.{refl}
 use native.Mathlib.Omega.{arith}
-use Rattle.meaning.proofs.Owners.{endIn}
+use Rattle.lent.specs.Owners.{endIn}
 use Rattle.questions.proofs.Standing.{along-none, along-still, along-new}
 use borrow.Author.Needs.{needs}
 use Rattle.questions.proofs.stand.spread_along.Statement.{statement}

@@ -6,9 +6,9 @@ use mathlib.Core.Path.{sym}
 use native.Mathlib.Omega.{arith}
 use borrow.Author.Tests.{lt-ltb, le-ltb}
 use Rattle.meaning.specs.Walk.{arrive, leave, told}
-use Rattle.meaning.proofs.Walks.{fate-none, fate-more}
-use Rattle.meaning.proofs.Owners.{endIn}
-use Rattle.meaning.proofs.Moving.{next-none, next-some}
+use Rattle.meaning.proofs.walk.Walks.{fate-none, fate-more}
+use Rattle.lent.specs.Owners.{endIn}
+use Rattle.lent.proofs.Walking.{next-none, next-some}
 use borrow.Fn.Kinds.{In}
 use borrow.Fn.PlainCycle.{Measures, is, falls, and}
 use Rattle.questions.proofs.walk.stand.Reads as stand

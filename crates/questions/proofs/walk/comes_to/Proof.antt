@@ -5,8 +5,8 @@ use mathlib.Core.Path.{_≡_, refl, sym}
 use Prim.Native.Nat.{_-_, _≤_, _<_}
 use native.Mathlib.Omega.{arith}
 use Rattle.meaning.specs.Walk.{at, after, comesTo}
-use Rattle.meaning.proofs.Owners.{nextIn, endIn}
-use Rattle.meaning.proofs.Moving.{step-to, NotYet, comes-now, not-now, comes-never, none-below}
+use Rattle.lent.specs.Owners.{nextIn, endIn}
+use Rattle.lent.proofs.Walking.{step-to, NotYet, comes-now, not-now, comes-never, none-below}
 use Rattle.questions.specs.Moves.{led}
 use Rattle.questions.proofs.Leads.{strayed}
 use Rattle.questions.proofs.walk.comes_to.Statement.{statement}

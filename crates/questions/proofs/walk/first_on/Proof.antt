@@ -8,10 +8,10 @@ use native.Mathlib.Omega.{arith}
 use lib.Count.{trailingZeros, trailing-le}
 use borrow.Author.Tests.{eq-eqb, ne-eqb, eqb-true}
 use Rattle.meaning.specs.Labels.{bit}
-use Rattle.meaning.proofs.Places.{le-or-lt}
-use Rattle.meaning.proofs.Bits.{bit-lt, bit-not}
-use Rattle.meaning.proofs.LabelWords.{trailing-below, trailing-at}
-use Rattle.meaning.proofs.Moving.{among}
+use Rattle.meaning.proofs.base.Order.{le-or-lt}
+use Rattle.meaning.proofs.base.Bits.{bit-lt, bit-not}
+use Rattle.lent.proofs.LabelWords.{trailing-below, trailing-at}
+use Rattle.lent.specs.Nodes.{among}
 use Rattle.questions.specs.Moves.{Below}
 use Rattle.questions.proofs.walk.first_on.Statement.{statement}
 use Rattle.questions.proofs.walk.first_on.Tie as tie

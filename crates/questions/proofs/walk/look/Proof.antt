@@ -9,8 +9,9 @@ use native.Mathlib.Omega.{arith}
 use lib.Bits.{bitOr}
 use borrow.Author.Tests.{eq-eqb}
 use Rattle.meaning.specs.Walk.{at, after, onCircle}
-use Rattle.meaning.proofs.Owners.{nextIn, endIn}
-use Rattle.meaning.proofs.Moving.{among, in-either, in-new, step-to, NotBack, back-now, not-back, no-circle, none-below, Trail, trail-start, trail-here, trail-on, trail-off}
+use Rattle.lent.specs.Owners.{nextIn, endIn}
+use Rattle.lent.specs.Nodes.{among}
+use Rattle.lent.proofs.Walking.{in-either, in-new, step-to, NotBack, back-now, not-back, no-circle, none-below, Trail, trail-start, trail-here, trail-on, trail-off}
 use Rattle.questions.specs.Moves.{led, seen, Within}
 use Rattle.questions.proofs.walk.look.Statement.{statement}
 use Rattle.questions.proofs.walk.look.Tie as tie

@@ -1,7 +1,7 @@
 -- `walk::move_from` meets its contract: the owner's link leads to a node or to an end. Assumes nothing.
 use borrow.Author.Needs.{needs}
-use Rattle.meaning.proofs.Owners.{endIn}
-use Rattle.meaning.proofs.Moving.{no-owner, to-node, to-end}
+use Rattle.lent.specs.Owners.{endIn}
+use Rattle.lent.proofs.Walking.{no-owner, to-node, to-end}
 use Rattle.questions.specs.Moves.{led}
 use Rattle.questions.proofs.walk.move_from.Statement.{statement}
 use Rattle.questions.proofs.walk.move_from.Tie as tie

@@ -8,7 +8,7 @@ use lib.Seq.{take-all}
 use borrow.Author.Needs.{needs}
 use Rattle.meaning.specs.Records.{readOf}
 use Rattle.meaning.specs.Answers.{saidRead}
-use Rattle.meaning.proofs.Reading.{read-past}
+use Rattle.meaning.proofs.records.Reading.{read-past}
 use Rattle.records.proofs.reader.read_at.Statement.{statement}
 use Rattle.records.proofs.reader.read_at.Tie as tie
 

@@ -8,8 +8,8 @@ use lib.ListN.{length-drop}
 use borrow.Author.Needs.{needs}
 use Rattle.meaning.specs.Records.{placeAfter}
 use Rattle.meaning.specs.declared.Read.{Read}
-use Rattle.meaning.proofs.Reading.{read-within, placed}
-use Rattle.meaning.proofs.Said.{read-once}
+use Rattle.meaning.proofs.records.Reading.{read-within, placed}
+use Rattle.meaning.proofs.records.Said.{read-once}
 use Rattle.records.proofs.reader.take_at.Statement.{statement}
 use Rattle.records.proofs.reader.take_at.Tie as tie
 

@@ -7,8 +7,8 @@ use native.Mathlib.Omega.{arith}
 use lib.Dec.{ltb, leb}
 use borrow.Author.Tests.{ltb-true, leb-true}
 use Rattle.meaning.specs.Records.{isKind, bodyOf}
-use Rattle.meaning.proofs.Members.{and-both}
-use Rattle.meaning.proofs.Reading.{past}
+use Rattle.meaning.proofs.base.Search.{and-both}
+use Rattle.meaning.proofs.records.Reading.{past}
 use Rattle.records.specs.Kinds.{bodyIn}
 use Rattle.records.specs.declared.record.Body.the-variants.{Bytes, Unknown}
 use Rattle.records.proofs.record.body_of.Statement.{statement}

@@ -2,7 +2,7 @@
 use borrow.Author.Needs.{needs}
 use native.Mathlib.Omega.{arith}
 use Rattle.meaning.specs.Records.{bodyOf}
-use Rattle.meaning.proofs.Reading.{longer, is-hall, is-link, is-close, is-insert, is-remove, is-loop, is-fate, is-reach, is-tally, past}
+use Rattle.meaning.proofs.records.Reading.{longer, is-hall, is-link, is-close, is-insert, is-remove, is-loop, is-fate, is-reach, is-tally, past}
 use mathlib.Core.Path.{_≡_}
 use Prim.Native.Nat.{ℕ, _≤_, _<_}
 use Rattle.records.proofs.record.fields_of.Statement.{statement}

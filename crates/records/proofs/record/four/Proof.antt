@@ -1,7 +1,7 @@
 -- `records::record::four` meets its contract: four bytes are two pairs of bytes. Assumes nothing.
 use borrow.Author.Needs.{needs}
 use native.Mathlib.Omega.{arith}
-use Rattle.meaning.proofs.Reading.{number-four}
+use Rattle.meaning.proofs.records.Reading.{number-four}
 use Rattle.records.proofs.record.four.Statement.{statement}
 use Rattle.records.proofs.record.four.Tie as tie
 

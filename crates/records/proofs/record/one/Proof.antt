@@ -1,7 +1,7 @@
 -- `records::record::one` meets its contract: a byte is below 256. Assumes nothing.
 use borrow.Author.Needs.{needs}
 use native.Mathlib.Omega.{arith}
-use Rattle.meaning.proofs.Reading.{byte}
+use Rattle.meaning.proofs.records.Reading.{byte}
 use Rattle.records.proofs.record.one.Statement.{statement}
 use Rattle.records.proofs.record.one.Tie as tie
 

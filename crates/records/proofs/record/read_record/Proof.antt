@@ -8,7 +8,7 @@ use lib.ListN.{length, getD}
 use Rattle.meaning.specs.Records.{isKind, bodyOf}
 use Rattle.meaning.specs.Answers.{saidRead}
 use Rattle.meaning.specs.declared.Read.the-variants.{Got}
-use Rattle.meaning.proofs.Reading.{read-end, read-unknown, read-short, read-got}
+use Rattle.meaning.proofs.records.Reading.{read-end, read-unknown, read-short, read-got}
 use Rattle.records.specs.Kinds.{bodyIn}
 use Rattle.records.specs.declared.record.Body.{Body}
 use Rattle.records.specs.declared.record.Body.the-variants.{Bytes, Unknown}

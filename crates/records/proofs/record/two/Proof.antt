@@ -2,7 +2,7 @@
 use borrow.Author.Needs.{needs}
 use Prim.Native.Nat.{_+_}
 use native.Mathlib.Omega.{arith}
-use Rattle.meaning.proofs.Reading.{number-two}
+use Rattle.meaning.proofs.records.Reading.{number-two}
 use Rattle.records.proofs.record.two.Statement.{statement}
 use Rattle.records.proofs.record.two.Tie as tie
 

@@ -1,6 +1,6 @@
 -- `atom::atom_of` meets its contract: the number at the address's place. Assumes nothing.
 use borrow.Author.Needs.{needs}
-use Rattle.meaning.proofs.Labelled.{held-whole}
+use Rattle.lent.proofs.Labelled.{held-whole}
 use Rattle.tables.proofs.atom.atom_of.Statement.{statement}
 use Rattle.tables.proofs.atom.atom_of.Tie as tie
 

@@ -2,7 +2,7 @@
 -- Past the used part all is 0. Assumes nothing.
 use Prim.Native.Nat.{_+_, _-_}
 use native.Mathlib.Omega.{arith}
-use Rattle.meaning.proofs.Insert.{Shifting, shift-start, shift-step, shift-end}
+use Rattle.meaning.proofs.base.InsertAt.{Shifting, shift-start, shift-step, shift-end}
 use borrow.Author.Needs.{needs}
 use Rattle.tables.proofs.atom.insert_cut.Statement.{statement}
 use Rattle.tables.proofs.atom.insert_cut.Tie as tie

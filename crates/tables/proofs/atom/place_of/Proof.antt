@@ -2,7 +2,7 @@
 use Prim.Native.Nat.{_+_, _-_, _/_, _≤_, _<_}
 use native.Mathlib.Omega.{arith}
 use Rattle.meaning.specs.Atoms.{placeOf}
-use Rattle.meaning.proofs.Places.{place-le, place-max, place-lt}
+use Rattle.meaning.proofs.atoms.Cuts.{place-le, place-max, place-lt}
 use borrow.Author.Needs.{needs}
 use Rattle.tables.proofs.atom.place_of.Statement.{statement}
 use Rattle.tables.proofs.atom.place_of.Tie as tie

@@ -1,5 +1,5 @@
 -- `label::put` meets its contract: a bit is set. Assumes nothing.
-use Rattle.meaning.proofs.Bits.{mask}
+use Rattle.meaning.proofs.base.Bits.{mask}
 use Rattle.tables.proofs.Moves.{put-is}
 use borrow.Author.Needs.{needs}
 use Rattle.tables.proofs.label.put.Statement.{statement}

@@ -1,5 +1,5 @@
 -- `label::take_off` meets its contract: a bit is cleared. Assumes nothing.
-use Rattle.meaning.proofs.Bits.{mask}
+use Rattle.meaning.proofs.base.Bits.{mask}
 use Rattle.tables.proofs.Moves.{taken-off-is}
 use borrow.Author.Needs.{needs}
 use Rattle.tables.proofs.label.take_off.Statement.{statement}

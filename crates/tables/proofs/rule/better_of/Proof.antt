@@ -1,6 +1,6 @@
 -- `rule::better_of` meets its contract. Each way out is a law of `Ranks`. Assumes nothing.
 use borrow.Author.Needs.{needs}
-use Rattle.meaning.proofs.Ranks.{keep-out, take-first, higher-by, lower-by}
+use Rattle.meaning.proofs.rules.Ranks.{keep-out, take-first, higher-by, lower-by}
 use Rattle.tables.proofs.Rules.{covers-below, covers-past, covers-between}
 use Rattle.tables.proofs.rule.better_of.Statement.{statement}
 use Rattle.tables.proofs.rule.better_of.Tie as tie

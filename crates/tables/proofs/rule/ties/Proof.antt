@@ -7,7 +7,7 @@ use lib.ListN.{getD}
 use denote.Ref.{now}
 use borrow.Author.Needs.{needs}
 use Rattle.meaning.specs.Search.{anyBelow}
-use Rattle.meaning.proofs.Members.{any-true, any-none, any-more}
+use Rattle.meaning.proofs.base.Search.{any-true, any-none, any-more}
 use Rattle.tables.specs.Gathered.{tying}
 use Rattle.tables.proofs.Rules.{ties-nowhere}
 use Rattle.tables.proofs.rule.ties.Statement.{statement}

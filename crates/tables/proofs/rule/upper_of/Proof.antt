@@ -3,7 +3,7 @@ use Prim.Native.Nat.{_/_}
 use native.Mathlib.Omega.{arith}
 use borrow.Author.Needs.{needs}
 use Rattle.meaning.specs.Rule.{upper}
-use Rattle.meaning.proofs.Bits.{mask, mask-le}
+use Rattle.meaning.proofs.base.Bits.{mask, mask-le}
 use Rattle.tables.proofs.rule.upper_of.Statement.{statement}
 use Rattle.tables.proofs.rule.upper_of.Tie as tie
 

@@ -9,8 +9,8 @@ use Rattle.meaning.specs.declared.Record.the-variants.{Insert as insertion}
 use Rattle.meaning.specs.Records.{phaseOf}
 use Rattle.meaning.specs.Step.{checked, refusal}
 use Rattle.meaning.specs.Box.{stateOf, Held}
-use Rattle.meaning.proofs.Labelled.{held-whole}
-use Rattle.meaning.proofs.Boxes.{short-leaves, disorder-leaves, order-leaves, turned-takes, insert-takes}
+use Rattle.lent.proofs.Labelled.{held-whole}
+use Rattle.lent.proofs.Steps.{short-leaves, disorder-leaves, order-leaves, turned-takes, insert-takes}
 use Rattle.tables.proofs.take.take_insert.Statement.{statement}
 use Rattle.tables.proofs.take.take_insert.Tie as tie
 

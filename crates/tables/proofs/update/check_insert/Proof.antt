@@ -8,7 +8,7 @@ use borrow.Author.Needs.{needs}
 use Rattle.meaning.specs.Box.{stateOf}
 use Rattle.meaning.specs.Step.{checked}
 use Rattle.meaning.specs.Winner.{ruleAt}
-use Rattle.meaning.proofs.Checks.{number-high, number-live, link-unknown, length-high, prefix-ragged}
+use Rattle.meaning.proofs.records.Checks.{number-high, number-live, link-unknown, length-high, prefix-ragged}
 use Rattle.tables.proofs.Rules.{Tried, insert-ties, insert-full, insert-passes}
 use Rattle.tables.proofs.update.check_insert.Statement.{statement}
 use Rattle.tables.proofs.update.check_insert.Tie as tie

@@ -6,7 +6,7 @@ use lib.ListN.{getD}
 use borrow.Author.Needs.{needs}
 use Rattle.meaning.specs.Step.{checked}
 use Rattle.meaning.specs.Winner.{ruleAt}
-use Rattle.meaning.proofs.Checks.{remove-high, remove-free, remove-passes}
+use Rattle.meaning.proofs.records.Checks.{remove-high, remove-free, remove-passes}
 use Rattle.tables.proofs.update.check_remove.Statement.{statement}
 use Rattle.tables.proofs.update.check_remove.Tie as tie
 

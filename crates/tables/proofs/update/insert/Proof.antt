@@ -12,10 +12,13 @@ use Rattle.meaning.specs.Box.{stateOf}
 use Rattle.meaning.specs.declared.Record.{Record}
 use Rattle.meaning.specs.declared.Record.the-variants.{Insert as insertion}
 use Rattle.meaning.specs.Step.{withRule, inserted, leaves, nodeOf}
-use Rattle.meaning.proofs.Words.{Sized, RuleFits, link-of}
-use Rattle.meaning.proofs.Kept.{Clear, clear, rule-fits, Room, room-for, room-lower, room-upper}
-use Rattle.meaning.proofs.Owners.{Whole}
-use Rattle.meaning.proofs.OneRule.{Joined, Spans, comes, rule-spans, node-small}
+use Rattle.meaning.proofs.records.Fields.{Sized}
+use Rattle.meaning.proofs.rules.Words.{RuleFits, link-of}
+use Rattle.meaning.proofs.records.Checks.{Clear, clear}
+use Rattle.meaning.proofs.sound.Kept.{rule-fits, Room, room-for, room-lower, room-upper}
+use Rattle.lent.specs.Owners.{Whole}
+use Rattle.meaning.proofs.sound.OneRule.{Joined, comes}
+use Rattle.lent.proofs.OwnerRules.{Spans, rule-spans, node-small}
 use Rattle.tables.proofs.Updated.{cutAs, split-is, split-whole, numbered, ready, listed-as, taken-in}
 use borrow.Author.Needs.{needs}
 use Rattle.tables.proofs.update.insert.Statement.{statement}

@@ -4,7 +4,7 @@ use native.Mathlib.Omega.{arith}
 use lib.Pow.{pow-pos}
 use borrow.Author.Needs.{needs}
 use Rattle.meaning.specs.Step.{ragged}
-use Rattle.meaning.proofs.Bits.{shifted}
+use Rattle.meaning.proofs.base.Bits.{shifted}
 use Rattle.tables.proofs.update.is_ragged.Statement.{statement}
 use Rattle.tables.proofs.update.is_ragged.Tie as tie
 

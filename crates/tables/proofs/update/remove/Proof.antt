@@ -12,7 +12,8 @@ use Rattle.meaning.specs.Atoms.{placeOf}
 use Rattle.meaning.specs.Box.{stateOf}
 use Rattle.meaning.specs.declared.Record.the-variants.{Remove as removal}
 use Rattle.meaning.specs.Step.{withRule, leaves, nodeOf}
-use Rattle.meaning.proofs.OneRule.{Joined, Spans, goes, rule-spans, node-small}
+use Rattle.meaning.proofs.sound.OneRule.{Joined, goes}
+use Rattle.lent.proofs.OwnerRules.{Spans, rule-spans, node-small}
 use Rattle.tables.proofs.Updated.{ready, listed-as, taken-out}
 use borrow.Author.Needs.{needs}
 use Rattle.tables.proofs.update.remove.Statement.{statement}

@@ -1,6 +1,6 @@
 -- `update::via_of` meets its contract. Assumes nothing.
 use borrow.Author.Tests.{eq-eqb, ne-eqb}
-use Rattle.meaning.proofs.Owners.{via}
+use Rattle.lent.specs.Owners.{via}
 use borrow.Author.Needs.{needs}
 use Rattle.tables.proofs.update.via_of.Statement.{statement}
 use Rattle.tables.proofs.update.via_of.Tie as tie

@@ -1,0 +1,197 @@
+-- A step of two states side by side, and what an accepted record was and stored. Assumes nothing.
+use mathlib.Core.Path.{_≡_, refl, sym, ap, _∙_}
+use mathlib.Core.Logic.{_↔_, _⊎_, inl, inr}
+use mathlib.Core.Bool.{Bool, true, false, true≢false}
+use mathlib.Core.Option.{Option, none, some}
+use mathlib.Core.List.{List, [], _∷_}
+use Prim.Native.Nat.{ℕ, _*_, _≤_, _<_}
+use native.Mathlib.Omega.{arith}
+use lib.Dec.{ltb}
+use lib.ListN.{length, set}
+use borrow.Author.Tests.{eqb-true, eq-eqb, lt-ltb, le-ltb, not-false}
+use Rattle.meaning.specs.declared.Answer.{Answer}
+use Rattle.meaning.specs.declared.Answer.the-variants.{End, Refused}
+use Rattle.meaning.specs.declared.Read.{Read}
+use Rattle.meaning.specs.declared.Read.the-variants.{End as Nothing}
+use Rattle.meaning.specs.declared.Record.{Record}
+use Rattle.meaning.specs.declared.Record.the-variants.{Hall as hall, Link as link, Close as close, Insert as insert, Remove as remove, Loop as loop, Fate as fate, Reach as reach, Tally as tally}
+use Rattle.meaning.specs.Search.{pick}
+use Rattle.meaning.specs.Hall.{State}
+use Rattle.meaning.specs.Rule.{ruleWord}
+use Rattle.meaning.specs.Atoms.{withCut}
+use Rattle.meaning.specs.Questions.{byAddress}
+use Rattle.meaning.specs.Records.{recordOf, readOf, phaseOf, isQuestion}
+use Rattle.meaning.specs.Step.{Done, refusal, withRule, inserted, leaves, turnedBy, only, answers, accepted, taken, stepFor, stepWith, stepOf}
+use Rattle.meaning.proofs.base.Order.{le-or-lt}
+use Rattle.meaning.proofs.records.Checks.{when-none}
+use Rattle.meaning.proofs.records.Steps.{Stepped, short, ended, unread, turned, took, stepped}
+use Rattle.meaning.proofs.records.Begins.{Begins, nothing, unread as without, whole, begins}
+use Rattle.meaning.proofs.document.Runs.{at-end, stays}
+use Rattle.meaning.proofs.demands.Demands.{refusedBy, Asks, ruleOf, then, Accepts}
+use Rattle.meaning.proofs.records.Kinds.{by-question}
+
+-- ---- kinds of records
+
+-- what holds of the inserts and the remove of rule i holds of every record that names rule i
+pub by-update : (P : Record → Type 0) (i : ℕ) → ((l p n t : ℕ) → P (insert i l p n t)) → P (remove i) → (r : Record) → ruleOf r ≡ some i → P r
+unfolding ruleOf
+by-update P i f g (hall n) e = let z : _≡_ {A = ℕ} 0 1 = cc in absurd (omega arith)
+by-update P i f g (link s c d) e = let z : _≡_ {A = ℕ} 0 1 = cc in absurd (omega arith)
+by-update P i f g close e = let z : _≡_ {A = ℕ} 0 1 = cc in absurd (omega arith)
+by-update P i f g (insert r l p n t) e = let q : r ≡ i = cc in rw q (f l p n t)
+by-update P i f g (remove r) e = let q : r ≡ i = cc in rw q g
+by-update P i f g loop e = let z : _≡_ {A = ℕ} 0 1 = cc in absurd (omega arith)
+by-update P i f g (fate v a) e = let z : _≡_ {A = ℕ} 0 1 = cc in absurd (omega arith)
+by-update P i f g (reach v w) e = let z : _≡_ {A = ℕ} 0 1 = cc in absurd (omega arith)
+by-update P i f g (tally v) e = let z : _≡_ {A = ℕ} 0 1 = cc in absurd (omega arith)
+
+-- ---- two steps side by side
+
+-- two tests that hold together are the same
+same-test : (i j k : ℕ) → ((i < k) ↔ (j < k)) → ltb i k ≡ ltb j k
+same-test i j k f = go (le-or-lt k i) (le-or-lt k j)
+  where
+    go : (k ≤ i) ⊎ (i < k) → (k ≤ j) ⊎ (j < k) → ltb i k ≡ ltb j k
+    go (inl h) (inl g) = le-ltb i k h ∙ sym (le-ltb j k g)
+    go (inl h) (inr g) = absurd (omega (arith, f .1 g))
+    go (inr h) (inl g) = absurd (omega (arith, f .0 h))
+    go (inr h) (inr g) = lt-ltb i k h ∙ sym (lt-ltb j k g)
+
+-- of the room that is lent a step sees only whether it is enough
+pub any-room : (m : State) (room room′ : ℕ) (s : List ℕ) → ((room < 5 * 512) ↔ (room′ < 5 * 512)) → stepOf m room s ≡ stepOf m room′ s
+unfolding stepOf stepWith
+any-room m room room′ s f = rw (same-test room room′ 2560 f)
+
+-- the answers of a step that leaves all as it was before a record is taken
+pub data Unmoved : Answer → Type 0 where
+  no-byte : Unmoved End
+  refused : (k : ℕ) → Unmoved (Refused k)
+
+-- where a record is turned away alike, what holds of both refusals and of both acceptances holds of both steps
+module _ (R : Done → Done → Type 0) (m n : State) (room : ℕ) (s : List ℕ) where
+  pub both-step : ((k : ℕ) (a : Answer) → Unmoved a → R (only m k a) (only n k a)) → turnedBy m (recordOf s) ≡ turnedBy n (recordOf s)
+      → ((k : ℕ) → turnedBy n (recordOf s) ≡ none → R (accepted (byAddress m) m k (recordOf s)) (accepted (byAddress n) n k (recordOf s))) → R (stepOf m room s) (stepOf n room s)
+  unfolding stepOf stepWith stepFor taken
+  both-step f e g = go (ltb room 2560) (readOf s) (begins s)
+    where
+      last : (k : ℕ) (o : Option ℕ) → turnedBy n (recordOf s) ≡ o → R (taken (byAddress m) m k (recordOf s) o) (taken (byAddress n) n k (recordOf s) o)
+      last k (some j) q = f k (Refused j) (refused j)
+      last k none q = g k q
+
+      go : (a : Bool) (x : Read) → Begins s x
+          → R (pick a (only m 0 (Refused 0)) (stepFor (byAddress m) m x)) (pick a (only n 0 (Refused 0)) (stepFor (byAddress n) n x))
+      go true x b = f 0 (Refused 0) (refused 0)
+      go false x (nothing h) = f 0 End no-byte
+      go false x (without k h) = f 0 (Refused k) (refused k)
+      go false x (whole h) = rw e (last _ _ refl)
+
+-- ---- "end"
+
+reads-nothing : (s : List ℕ) → readOf s ≡ Nothing → length s ≡ 0
+reads-nothing s e = go (readOf s) (begins s) e
+  where
+    go : (x : Read) → Begins s x → x ≡ Nothing → length s ≡ 0
+    go x (nothing h) e = h
+    go x (without k h) e = let z : _≡_ {A = ℕ} 0 1 = cc in absurd (omega arith)
+    go x (whole h) e = let z : _≡_ {A = ℕ} 0 1 = cc in absurd (omega arith)
+
+-- THE LAW: the answer is "end" exactly when the list is long enough and no byte is left
+pub end-is : (m : State) (room : ℕ) (s : List ℕ) → (stepOf m room s .answer ≡ End) ↔ ((5 * 512 ≤ room) × (length s ≡ 0))
+unfolding stepOf stepWith stepFor readOf only accepted
+end-is m room s = (λ e. go _ (stepped _ m room s) refl e, λ h. rw (le-ltb room 2560 (h .0), eq-eqb (length s) 0 (h .1)))
+  where
+    go : (d : Done) → Stepped (byAddress m) m room s d → stepWith (byAddress m) m room (readOf s) ≡ d → d .answer ≡ End → (5 * 512 ≤ room) × (length s ≡ 0)
+    go d (short h) q e = let z : _≡_ {A = ℕ} 0 1 = cc in absurd (omega arith)
+    go d (ended h r) q e = (h, reads-nothing s r)
+    go d (unread k h r o) q e = let z : _≡_ {A = ℕ} 0 1 = cc in absurd (omega arith)
+    go d (turned r n k h g pos f b) q e = let z : _≡_ {A = ℕ} 0 1 = cc in absurd (omega arith)
+    go d (took r n h g pos f) q e = let none : n ≡ 0 = sym (ap (λ (d : Done). d .passed) q) ∙ stays m room s .1 (rw (q, e) at-end) in absurd (omega arith)
+
+-- ---- an accepted record
+
+-- it passed every check, and the step d is that of the record
+pub record Took (m : State) (s : List ℕ) (d : Done) : Type 0 where
+  pub bytes : ℕ
+  pub phase : m .phase ≡ phaseOf (recordOf s)
+  pub passes : refusal m (recordOf s) ≡ none
+  pub is : d ≡ accepted (byAddress m) m bytes (recordOf s)
+
+module _ (m : State) (room : ℕ) (s : List ℕ) where
+  -- what is neither refused nor "end" is accepted
+  pub accepts : refusedBy (stepOf m room s .answer) ≡ none → (stepOf m room s .answer ≡ End → ⊥) → Took m s (stepOf m room s)
+  unfolding only refusedBy
+  accepts = both-step (λ d e. refusedBy (d .answer) ≡ none → (d .answer ≡ End → ⊥) → Took m s d) m m room s unmoved refl passed
+    where
+      unmoved : (k : ℕ) (a : Answer) → Unmoved a → refusedBy a ≡ none → (a ≡ End → ⊥) → Took m s (only m k a)
+      unmoved k a no-byte e f = absurd (f refl)
+      unmoved k a (refused j) e f = let z : _≡_ {A = ℕ} 0 1 = cc in absurd (omega arith)
+
+      passed : (k : ℕ) → turnedBy m (recordOf s) ≡ none → refusedBy (accepted (byAddress m) m k (recordOf s) .answer) ≡ none
+          → (accepted (byAddress m) m k (recordOf s) .answer ≡ End → ⊥) → Took m s (accepted (byAddress m) m k (recordOf s))
+      passed k q e f = let y = when-none _ _ _ q in record { bytes = k; phase = eqb-true _ _ (not-false _ (y .0)); passes = y .1; is = refl }
+
+-- ---- a question that is not refused
+
+empty-close : (s : List ℕ) → length s ≡ 0 → recordOf s ≡ close
+unfolding recordOf
+empty-close [] e = refl
+empty-close (x ∷ s) e = absurd (omega arith)
+
+module _ (m : State) (room : ℕ) (s : List ℕ) (r : Record) (A : Asks m room s r) (q : isQuestion r ≡ true) where
+  took-question : Took m s (stepOf m room s)
+  took-question = accepts m room s (A .taken) (λ e. true≢false (sym q ∙ ap isQuestion (sym (A .record-is) ∙ empty-close s (end-is m room s .0 e .1)) ∙ (unfold isQuestion in refl)))
+
+  pub asked-passes : refusal m r ≡ none
+  asked-passes = rw (A .record-is) at (took-question .passes)
+
+  -- THE LAW: it is answered by what the definitions of the questions say
+  pub asked-is : stepOf m room s .answer ≡ byAddress m r
+  unfolding accepted answers
+  asked-is =
+      ap (λ (d : Done). d .answer) (took-question .is) ∙ ap (answers (byAddress m) m) (A .record-is)
+      ∙ by-question (λ r. answers (byAddress m) m r ≡ byAddress m r) refl (λ v a. refl) (λ v w. refl) (λ v. refl) r q
+
+-- ---- an accepted insert or remove
+
+module _ (m : State) (room : ℕ) (s : List ℕ) (i : ℕ) (A : Accepts m room s i) where
+  pub took-it : Took m s (stepOf m room s)
+  took-it = accepts m room s (ap refusedBy (A .ok) ∙ (unfold refusedBy in refl)) (λ e. let z : _≡_ {A = ℕ} 0 1 = cc (A .ok) in omega arith)
+
+  pub left-is : then m room s ≡ leaves m (recordOf s)
+  unfolding accepted
+  left-is = ap (λ (d : Done). d .left) (took-it .is)
+
+-- ---- what such a record stores
+
+-- the word that rule i has then
+unfoldable pub storedBy : Record → ℕ
+storedBy (hall n) = 0
+storedBy (link s c e) = 0
+storedBy close = 0
+storedBy (insert r l p n t) = ruleWord l p n t
+storedBy (remove r) = 0
+storedBy loop = 0
+storedBy (fate v a) = 0
+storedBy (reach v w) = 0
+storedBy (tally v) = 0
+
+-- it stores that word and keeps the hall
+pub record Stores (m n : State) (i w : ℕ) : Type 0 where
+  pub rule : n .rule ≡ set (m .rule) i w
+  pub phase : n .phase ≡ m .phase
+  pub nodes : n .nodes ≡ m .nodes
+  pub links : n .links ≡ m .links
+  pub link : n .link ≡ m .link
+
+stores-one : (m : State) (i : ℕ) (r : Record) → ruleOf r ≡ some i → Stores m (leaves m r) i (storedBy r)
+unfolding storedBy leaves inserted withRule withCut
+stores-one m i =
+    by-update (λ r. Stores m (leaves m r) i (storedBy r)) i (λ l p n t. record { rule = refl; phase = refl; nodes = refl; links = refl; link = refl })
+    (record { rule = refl; phase = refl; nodes = refl; links = refl; link = refl })
+
+-- THE LAW
+pub stores : (m : State) (room : ℕ) (s : List ℕ) (i : ℕ) → Accepts m room s i → Stores m (then m room s) i (storedBy (recordOf s))
+stores m room s i A = rw (left-is m room s i A) (stores-one m i (recordOf s) (A .names))
+
+pub closed-hall : (m : State) (room : ℕ) (s : List ℕ) (i : ℕ) → Accepts m room s i → m .phase ≡ 2
+closed-hall m room s i A = took-it m room s i A .phase ∙ by-update (λ r. phaseOf r ≡ 2) i (λ l p n t. unfold phaseOf in refl) (unfold phaseOf in refl) (recordOf s) (A .names)
