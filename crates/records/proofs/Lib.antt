@@ -1,2 +1,3 @@
 -- The laws of the reader's functions.
+-- a reader's outcome is the only one
 pub mod Once

@@ -1,4 +1,4 @@
--- What `split` leaves: the two outcomes of `Split`, and that the tables are well formed again.
+-- Where a number is made a boundary the tables are in order again: the boundaries rise, the numbers are apart, and what was a boundary is one.
 -- Assumes nothing.
 use mathlib.Core.Path.{_≡_, refl, sym, ap, _∙_}
 use mathlib.Core.List.{List}

@@ -1,4 +1,4 @@
--- The three demands, as statements: a field stands under the words that it says. That they hold is proved in DemandsHold.
+-- The three demands, as statements: a field stands under the words that it says. That they hold is proved in Hold.
 -- From the files of the laws only types are taken. Assumes nothing: these are statements.
 use mathlib.Core.Path.{_≡_}
 use mathlib.Core.Logic.{_↔_, _⊎_}

@@ -1,5 +1,6 @@
 -- The atoms after any records: each address lies in exactly one, their numbers are those below the counter, the winners are constant on each,
--- and an atom is on a link exactly when, for each of its addresses, the winner at the link's source names the link. What is asked of a label itself: how many atoms are on the link, and which is the lowest-numbered. Assumes nothing.
+-- and an atom is on a link exactly when, for each of its addresses, the winner at the link's source names the link.
+-- What is asked of a label itself: how many atoms are on the link, and which is the lowest-numbered. Assumes nothing.
 use mathlib.Core.Path.{_≡_, refl, sym, ap, _∙_}
 use mathlib.Core.Logic.{_↔_, ⊎-elim}
 use mathlib.Core.Bool.{true, false, true≢false}

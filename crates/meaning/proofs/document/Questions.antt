@@ -1,4 +1,4 @@
--- What the definitions mean, of a sound state: the winner, the walk's end, the circle, the way to a node. Assumes nothing.
+-- The answers to loop, reach and tally after any records, over addresses. Assumes nothing.
 use mathlib.Core.Path.{_≡_, refl, sym, ap, _∙_}
 use mathlib.Core.Logic.{_↔_, Iff·symm}
 use mathlib.Core.Bool.{true, true≢false}

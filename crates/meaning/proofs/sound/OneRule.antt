@@ -1,4 +1,4 @@
--- What an update does to the winners and the owners. State n has the rules of m and one more, rule r with the word z: an insert goes from
+-- What an update does to the winners. State n has the rules of m and one more, rule r with the word z: an insert goes from
 -- m to n, a remove from n to m. With r, the winner is the better of the winner without it and r. Assumes nothing.
 use mathlib.Core.Path.{_≡_, refl, sym, ap, ap₂, _∙_, subst⁻¹}
 use mathlib.Core.Logic.{inl, inr, ⊎-elim}

@@ -1,4 +1,4 @@
--- A state that came from the fresh one by records is sound. Assumes nothing.
+-- The fresh state is sound, and what every record keeps holds of every state that came by records. Assumes nothing.
 use mathlib.Core.Path.{_≡_, refl, sym, ap, _∙_}
 use mathlib.Core.Logic.{⊎-elim}
 use mathlib.Core.List.{List}

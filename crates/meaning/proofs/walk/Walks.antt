@@ -61,6 +61,17 @@ module _ (next : ℕ → Option ℕ) (end : ℕ → ℕ) where
   after-add zero b p = rw zero-add
   after-add (suc a) b p = rw suc-add (after-add a b (move next end p))
 
+  -- what has ended stays where it is
+  pub out-stays : (k l : ℕ) → after next end k (out l) ≡ out l
+  unfolding after move
+  out-stays zero l = refl
+  out-stays (suc k) l = out-stays k l
+
+  pub lost-stays : (k v : ℕ) → after next end k (lost v) ≡ lost v
+  unfolding after move
+  lost-stays zero v = refl
+  lost-stays (suc k) v = lost-stays k v
+
   pub after-suc : (k : ℕ) (p : Place) → after next end (suc k) p ≡ move next end (after next end k p)
   unfolding after
   after-suc zero p = refl
