@@ -5,6 +5,7 @@ use meaning::Fate;
 use meaning::Hall;
 use meaning::Record;
 use tables::Place;
+use tables::atom_at;
 ghost use mathlib.Core.Path.{_≡_};
 ghost use Prim.Native.Nat.{ℕ, _+_, _-_, _<_, _≤_};
 ghost use Rattle.meaning.specs.Questions.{fateOf, isOut, isLost, byAddress};
@@ -68,7 +69,7 @@ fn find_loop(
     }
     let mut p: usize = 0;
     'search: while p < atoms {
-        let atom = tables::atom_at(number, Place(p));
+        let atom = atom_at(number, Place(p));
         let mut off = never;
         let mut v = crate::walk::first_on(off);
         while v < nodes {
@@ -111,7 +112,7 @@ fn find_reach(
     }
     let mut p: usize = 0;
     while p < atoms {
-        let atom = tables::atom_at(number, Place(p));
+        let atom = atom_at(number, Place(p));
         if crate::walk::comes_to(link, owner, atom, h.nodes, v, w, to) {
             return Answer::Yes(cut[p]);
         }
@@ -177,7 +178,7 @@ fn count_fates(
     };
     let mut p: usize = 0;
     while p < places(h) {
-        let atom = tables::atom_at(number, Place(p));
+        let atom = atom_at(number, Place(p));
         let out = crate::stand::in_row(&stand, 16, atom);
         let lost = crate::stand::in_row(&stand, 17, atom);
         c = counted(c, out, lost, cut[p + 1] - cut[p]);

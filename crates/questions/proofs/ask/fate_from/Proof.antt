@@ -1,5 +1,4 @@
 -- `ask::fate_from` meets its contract: the fate of the atom that holds the address is the address's. Assumes nothing.
-use borrow.Author.Needs.{needs}
 use native.Mathlib.Omega.{arith}
 use Rattle.lent.proofs.Labelled.{held-whole}
 use Rattle.meaning.proofs.atoms.Cuts.{place-holds}

@@ -1,7 +1,7 @@
 -- `ask::find_reach` meets its contract. The loop's invariant: at no place below p the walk from v comes to w. Assumes nothing.
 use borrow.Author.Needs.{needs}
 use mathlib.Core.Path.{sym, _∙_}
-use Prim.Native.Nat.{_-_, _≤_, _<_}
+use Prim.Native.Nat.{_-_, _≤_}
 use native.Mathlib.Omega.{arith}
 use borrow.Author.Count.{below-more}
 use Rattle.lent.proofs.Questions.{NotCome, small-atom, ends-of, reach-none, reach-is}
