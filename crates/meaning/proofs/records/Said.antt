@@ -21,7 +21,7 @@ use Rattle.meaning.specs.Records.{number, isKind, bodyOf, recordOf, read
 use Rattle.meaning.specs.Hall.{State}
 use Rattle.meaning.specs.Box.{Left, left}
 use Rattle.meaning.proofs.base.Search.{and-both}
-use Rattle.meaning.proofs.records.Reading.{read-end, read-unknown, read-short, read-got}
+use Rattle.meaning.proofs.records.Reading.{is-hall, is-link, is-close, is-insert, is-remove, is-loop, is-fate, is-reach, is-tally, read-end, read-unknown, read-short, read-got}
 
 -- an `ok` with no number is that of a hall, a link or a close
 oks : List ℕ → Answer
@@ -76,22 +76,22 @@ numbers s i (w ∷ ws) = number s i w ∷ numbers s (i + w) ws
 module _ (s : List ℕ) where
   -- THE LAW: a record's kind is its first byte, and its fields are the numbers in the bytes after it
   pub sent-is : isKind (getD s 0 0) ≡ true → sent (recordOf s) ≡ sends (getD s 0 0) (numbers s 1 (widths (getD s 0 0)))
-  unfolding isKind recordOf sent numbers widths
+  unfolding isKind sent numbers widths
   sent-is h =
       let p = and-both (ltb 0 (getD s 0 0)) (leb (getD s 0 0) 9) h in
       go (getD s 0 0) refl (ltb-true 0 (getD s 0 0) (p .0)) (leb-true (getD s 0 0) 9 (p .1))
     where
       go : (k : ℕ) → getD s 0 0 ≡ k → 0 < k → k ≤ 9 → sent (recordOf s) ≡ sends k (numbers s 1 (widths k))
       go zero e h l = absurd (omega arith)
-      go (suc zero) e h l = rw e
-      go (suc (suc zero)) e h l = rw e
-      go (suc (suc (suc zero))) e h l = rw e
-      go (suc (suc (suc (suc zero)))) e h l = rw e
-      go (suc (suc (suc (suc (suc zero))))) e h l = rw e
-      go (suc (suc (suc (suc (suc (suc zero)))))) e h l = rw e
-      go (suc (suc (suc (suc (suc (suc (suc zero))))))) e h l = rw e
-      go (suc (suc (suc (suc (suc (suc (suc (suc zero)))))))) e h l = rw e
-      go (suc (suc (suc (suc (suc (suc (suc (suc (suc zero))))))))) e h l = rw e
+      go (suc zero) e h l = sym (ap sent (is-hall s e))
+      go (suc (suc zero)) e h l = sym (ap sent (is-link s e))
+      go (suc (suc (suc zero))) e h l = sym (ap sent (is-close s e))
+      go (suc (suc (suc (suc zero)))) e h l = sym (ap sent (is-insert s e))
+      go (suc (suc (suc (suc (suc zero))))) e h l = sym (ap sent (is-remove s e))
+      go (suc (suc (suc (suc (suc (suc zero)))))) e h l = sym (ap sent (is-loop s e))
+      go (suc (suc (suc (suc (suc (suc (suc zero))))))) e h l = sym (ap sent (is-fate s e))
+      go (suc (suc (suc (suc (suc (suc (suc (suc zero)))))))) e h l = sym (ap sent (is-reach s e))
+      go (suc (suc (suc (suc (suc (suc (suc (suc (suc zero))))))))) e h l = sym (ap sent (is-tally s e))
       go (suc (suc (suc (suc (suc (suc (suc (suc (suc (suc n)))))))))) e h l = absurd (omega arith)
 
   -- so what is read says "end", is refused by 1 or by 2, or says the kind, the fields and the length
