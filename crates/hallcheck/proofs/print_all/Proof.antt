@@ -22,18 +22,6 @@ abbrev μ-loop : tie.MeasureT-loop
 μ-loop bytes link₀ rule₀ cut₀ number₀ label₀ owner₀ list₀ out₀ h₀ at₀ place₀ end₀ link rule cut number label owner list out h at place end =
     length bytes - at
 
-loop-holds : tie.Need-loop-holds Inv-loop μ-loop
-loop-holds c = search needs
-
-sub-rest : tie.Need-sub-rest Inv-loop μ-loop
-sub-rest c = search needs
-
-part-rest-start : tie.Need-part-rest-start Inv-loop μ-loop
-part-rest-start c = search needs
-
-part-rest-end : tie.Need-part-rest-end Inv-loop μ-loop
-part-rest-end c = search needs
-
 take-record-requires : tie.Need-take-record-requires Inv-loop μ-loop
 take-record-requires c κs = c .before .before .before .before .before .before .before .before .loop .inv .0 .held
 
@@ -45,15 +33,6 @@ print-answer-requires c κs =
 
 write-out-requires : tie.Need-write-out-requires Inv-loop μ-loop
 write-out-requires c κs = search needs
-
-same-length : tie.Need-same-length Inv-loop μ-loop
-same-length c = search needs
-
-same-length-2 : tie.Need-same-length-2 Inv-loop μ-loop
-same-length-2 c = search needs
-
-returns : tie.Need-returns Inv-loop μ-loop
-returns c = search needs
 
 loop-again : tie.Need-loop-again Inv-loop μ-loop
 loop-again c =
@@ -80,16 +59,16 @@ print-all-spec =
     (tie.spec
     Inv-loop
     μ-loop
-    loop-holds
-    sub-rest
-    part-rest-start
-    part-rest-end
+    (λ c. search needs)  -- loop-holds
+    (λ c. search needs)  -- sub-rest
+    (λ c. search needs)  -- part-rest-start
+    (λ c. search needs)  -- part-rest-end
     take-record-requires
     print-answer-requires
     write-out-requires
-    same-length
-    same-length-2
-    returns
+    (λ c. search needs)  -- same-length
+    (λ c. search needs)  -- same-length-2
+    (λ c. search needs)  -- returns
     add-at
     add-place
     loop-less

@@ -9,9 +9,6 @@ use Rattle.hallcheck.proofs.make_room.Reads as make-room-reads
 use Rattle.hallcheck.proofs.print_changes.Reads as print-changes-reads
 use Rattle.print.proofs.put_line.Reads as put-line-reads
 
-enum-told : tie.Need-enum-told
-enum-told c = search needs
-
 make-room-requires : tie.Need-make-room-requires
 make-room-requires c κs = search needs
 
@@ -28,24 +25,15 @@ print-changes-requires c κs =
     let start = m .before .before .before .before .before in
     (search (needs, w .put-line .ensures .fits (m .make-room .ensures)), c .entries-of .ensures .stand _ (start .pre .1))
 
-returns : tie.Need-returns
-returns c = search needs
-
-same-length : tie.Need-same-length
-same-length c = search needs
-
-returns-2 : tie.Need-returns-2
-returns-2 c = search needs
-
 pub print-answer-spec : {M : Type 1} → statement M
 print-answer-spec =
     tie.close
     (tie.spec
-    enum-told
+    (λ c. search needs)  -- enum-told
     make-room-requires
     put-line-requires
     entries-of-requires
     print-changes-requires
-    returns
-    same-length
-    returns-2)
+    (λ c. search needs)  -- returns
+    (λ c. search needs)  -- same-length
+    (λ c. search needs))  -- returns-2

@@ -13,8 +13,8 @@ slice-aggregate-write-all c = search (needs, length-take-le)
 write-all-requires : tie.Need-write-all-requires
 write-all-requires c κs = search needs
 
-returns : tie.Need-returns
-returns c = search needs
-
 pub write-out-spec : {M : Type 1} → statement M
-write-out-spec = tie.close (tie.spec slice-aggregate-write-all write-all-requires returns)
+write-out-spec = tie.close (tie.spec
+    slice-aggregate-write-all
+    write-all-requires
+    (λ c. search needs))  -- returns

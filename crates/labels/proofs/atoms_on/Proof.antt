@@ -27,29 +27,11 @@ loop-holds : tie.Need-loop-holds Inv-loop μ-loop
 unfolding countBelow
 loop-holds c = (search needs, refl)
 
-mul-n : tie.Need-mul-n Inv-loop μ-loop
-mul-n c = search needs
-
-add-n : tie.Need-add-n Inv-loop μ-loop
-add-n c = search needs
-
-mul-n-2 : tie.Need-mul-n-2 Inv-loop μ-loop
-mul-n-2 c = search needs
-
-shared-slice-read-n : tie.Need-shared-slice-read-n Inv-loop μ-loop
-shared-slice-read-n c = search needs
-
 add-n-2 : tie.Need-add-n-2 Inv-loop μ-loop
 add-n-2 c =
     let p = c .before .before in
     let a = p .before .before .before .args in
     omega (arith, ones-le 64 _ (c .shared-slice-known .given (8 * a .link + p .loop .i) .fits), count-le (on (now (a .label)) (a .link)) (64 * p .loop .i))
-
-add-i : tie.Need-add-i Inv-loop μ-loop
-add-i c = search needs
-
-loop-less : tie.Need-loop-less Inv-loop μ-loop
-loop-less c = search needs
 
 loop-again : tie.Need-loop-again Inv-loop μ-loop
 loop-again c =
@@ -73,12 +55,12 @@ atoms-on-spec =
     μ-loop
     returns
     loop-holds
-    mul-n
-    add-n
-    mul-n-2
-    shared-slice-read-n
+    (λ c. search needs)  -- mul-n
+    (λ c. search needs)  -- add-n
+    (λ c. search needs)  -- mul-n-2
+    (λ c. search needs)  -- shared-slice-read-n
     add-n-2
-    add-i
-    loop-less
+    (λ c. search needs)  -- add-i
+    (λ c. search needs)  -- loop-less
     loop-again
     returns-2)

@@ -28,29 +28,11 @@ returns c = rw (le-ltb _ _ (c .if1 .taken))
 loop-holds : tie.Need-loop-holds Inv-loop μ-loop
 loop-holds c = (search needs, λ j l. absurd (omega arith))
 
-mul-w : tie.Need-mul-w Inv-loop μ-loop
-mul-w c = search needs
-
-add-w : tie.Need-add-w Inv-loop μ-loop
-add-w c = search needs
-
-mul-w-2 : tie.Need-mul-w-2 Inv-loop μ-loop
-mul-w-2 c = search needs
-
-element-copy-out-w : tie.Need-element-copy-out-w Inv-loop μ-loop
-element-copy-out-w c = search needs
-
 cast-t : tie.Need-cast-t Inv-loop μ-loop
 cast-t c =
     let p = c .before .before in
     let a = p .before .before .args in
     omega (arith, trailing-le 64 (getD (now (a .label)) (8 * a .link + p .loop .i) 0))
-
-mul-t15 : tie.Need-mul-t15 Inv-loop μ-loop
-mul-t15 c = search needs
-
-add-t16 : tie.Need-add-t16 Inv-loop μ-loop
-add-t16 c = search needs
 
 returns-2 : tie.Need-returns-2 Inv-loop μ-loop
 unfolding found lowestOn
@@ -59,12 +41,6 @@ returns-2 c =
     let a = p .before .before .args in
     rw (lt-ltb _ _ (p .before .if1 .left))
     (sym (lowest-first _ 512 _ (omega arith) (there (now (a .label)) (a .link) (p .loop .i) (c .if2 .taken)) (none-below (now (a .label)) (a .link) (p .loop .i) (p .loop .inv .1))))
-
-add-i : tie.Need-add-i Inv-loop μ-loop
-add-i c = search needs
-
-loop-less : tie.Need-loop-less Inv-loop μ-loop
-loop-less c = search needs
 
 loop-again : tie.Need-loop-again Inv-loop μ-loop
 loop-again c =
@@ -84,15 +60,15 @@ lowest-on-spec =
     μ-loop
     returns
     loop-holds
-    mul-w
-    add-w
-    mul-w-2
-    element-copy-out-w
+    (λ c. search needs)  -- mul-w
+    (λ c. search needs)  -- add-w
+    (λ c. search needs)  -- mul-w-2
+    (λ c. search needs)  -- element-copy-out-w
     cast-t
-    mul-t15
-    add-t16
+    (λ c. search needs)  -- mul-t15
+    (λ c. search needs)  -- add-t16
     returns-2
-    add-i
-    loop-less
+    (λ c. search needs)  -- add-i
+    (λ c. search needs)  -- loop-less
     loop-again
     returns-3)

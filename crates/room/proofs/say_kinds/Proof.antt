@@ -12,26 +12,8 @@ Inv-loop list₀ k₀ list k = (length list ≡ length list₀) × (k ≤ 11)
 abbrev μ-loop : tie.MeasureT-loop
 μ-loop list₀ k₀ list k = 11 - k
 
-loop-holds : tie.Need-loop-holds Inv-loop μ-loop
-loop-holds c = search needs
-
 say-kind-requires : tie.Need-say-kind-requires Inv-loop μ-loop
 say-kind-requires c κs = search needs
-
-add-k : tie.Need-add-k Inv-loop μ-loop
-add-k c = search needs
-
-loop-less : tie.Need-loop-less Inv-loop μ-loop
-loop-less c = search needs
-
-loop-again : tie.Need-loop-again Inv-loop μ-loop
-loop-again c = search needs
-
-same-length : tie.Need-same-length Inv-loop μ-loop
-same-length c = search needs
-
-returns : tie.Need-returns Inv-loop μ-loop
-returns c = search needs
 
 pub say-kinds-spec : {M : Type 1} → statement M
 say-kinds-spec =
@@ -39,10 +21,10 @@ say-kinds-spec =
     (tie.spec
     Inv-loop
     μ-loop
-    loop-holds
+    (λ c. search needs)  -- loop-holds
     say-kind-requires
-    add-k
-    loop-less
-    loop-again
-    same-length
-    returns)
+    (λ c. search needs)  -- add-k
+    (λ c. search needs)  -- loop-less
+    (λ c. search needs)  -- loop-again
+    (λ c. search needs)  -- same-length
+    (λ c. search needs))  -- returns

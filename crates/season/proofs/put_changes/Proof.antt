@@ -12,35 +12,11 @@ Inv-loop stream₀ start at₀ k₀ stream at k = (length stream ≡ length stre
 abbrev μ-loop : tie.MeasureT-loop
 μ-loop stream₀ start at₀ k₀ stream at k = 256 - k
 
-loop-holds : tie.Need-loop-holds Inv-loop μ-loop
-loop-holds c = search needs
-
 put-three-requires : tie.Need-put-three-requires Inv-loop μ-loop
 put-three-requires c κs = search needs
 
-cast-half : tie.Need-cast-half Inv-loop μ-loop
-cast-half c = search needs
-
-mul-half : tie.Need-mul-half Inv-loop μ-loop
-mul-half c = search needs
-
 put-insert-requires : tie.Need-put-insert-requires Inv-loop μ-loop
 put-insert-requires c κs = search needs
-
-add-k : tie.Need-add-k Inv-loop μ-loop
-add-k c = search needs
-
-loop-less : tie.Need-loop-less Inv-loop μ-loop
-loop-less c = search needs
-
-loop-again : tie.Need-loop-again Inv-loop μ-loop
-loop-again c = search needs
-
-same-length : tie.Need-same-length Inv-loop μ-loop
-same-length c = search needs
-
-returns : tie.Need-returns Inv-loop μ-loop
-returns c = search needs
 
 pub put-changes-spec : {M : Type 1} → statement M
 put-changes-spec =
@@ -48,13 +24,13 @@ put-changes-spec =
     (tie.spec
     Inv-loop
     μ-loop
-    loop-holds
+    (λ c. search needs)  -- loop-holds
     put-three-requires
-    cast-half
-    mul-half
+    (λ c. search needs)  -- cast-half
+    (λ c. search needs)  -- mul-half
     put-insert-requires
-    add-k
-    loop-less
-    loop-again
-    same-length
-    returns)
+    (λ c. search needs)  -- add-k
+    (λ c. search needs)  -- loop-less
+    (λ c. search needs)  -- loop-again
+    (λ c. search needs)  -- same-length
+    (λ c. search needs))  -- returns

@@ -12,32 +12,11 @@ Inv-loop stream₀ start at₀ v₀ stream at v = (length stream ≡ length stre
 abbrev μ-loop : tie.MeasureT-loop
 μ-loop stream₀ start at₀ v₀ stream at v = 15 - v
 
-loop-holds : tie.Need-loop-holds Inv-loop μ-loop
-loop-holds c = search needs
-
 put-four-requires : tie.Need-put-four-requires Inv-loop μ-loop
 put-four-requires c κs = search needs
 
-add-put-four : tie.Need-add-put-four Inv-loop μ-loop
-add-put-four c = search needs
-
 put-four-requires-2 : tie.Need-put-four-requires-2 Inv-loop μ-loop
 put-four-requires-2 c κs = search needs
-
-add-v : tie.Need-add-v Inv-loop μ-loop
-add-v c = search needs
-
-loop-less : tie.Need-loop-less Inv-loop μ-loop
-loop-less c = search needs
-
-loop-again : tie.Need-loop-again Inv-loop μ-loop
-loop-again c = search needs
-
-same-length : tie.Need-same-length Inv-loop μ-loop
-same-length c = search needs
-
-returns : tie.Need-returns Inv-loop μ-loop
-returns c = search needs
 
 pub put-links-spec : {M : Type 1} → statement M
 put-links-spec =
@@ -45,12 +24,12 @@ put-links-spec =
     (tie.spec
     Inv-loop
     μ-loop
-    loop-holds
+    (λ c. search needs)  -- loop-holds
     put-four-requires
-    add-put-four
+    (λ c. search needs)  -- add-put-four
     put-four-requires-2
-    add-v
-    loop-less
-    loop-again
-    same-length
-    returns)
+    (λ c. search needs)  -- add-v
+    (λ c. search needs)  -- loop-less
+    (λ c. search needs)  -- loop-again
+    (λ c. search needs)  -- same-length
+    (λ c. search needs))  -- returns

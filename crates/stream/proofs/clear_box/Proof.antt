@@ -15,9 +15,6 @@ clear-words-requires c κs = search needs
 clear-words-requires-2 : tie.Need-clear-words-requires-2
 clear-words-requires-2 c κs = search needs
 
-element-write-cut : tie.Need-element-write-cut
-element-write-cut c = search needs
-
 clear-halves-requires-2 : tie.Need-clear-halves-requires-2
 clear-halves-requires-2 c κs = search needs
 
@@ -45,7 +42,7 @@ clear-box-spec =
     clear-halves-requires
     clear-words-requires
     clear-words-requires-2
-    element-write-cut
+    (λ c. search needs)  -- element-write-cut
     clear-halves-requires-2
     clear-words-requires-3
     clear-halves-requires-3

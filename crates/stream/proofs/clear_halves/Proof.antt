@@ -16,15 +16,6 @@ abbrev μ-loop : tie.MeasureT-loop
 loop-holds : tie.Need-loop-holds Inv-loop μ-loop
 loop-holds c = cleared-none _
 
-mul-halves : tie.Need-mul-halves Inv-loop μ-loop
-mul-halves c = search needs
-
-slice-write-halves : tie.Need-slice-write-halves Inv-loop μ-loop
-slice-write-halves c = search needs
-
-add-i : tie.Need-add-i Inv-loop μ-loop
-add-i c = search needs
-
 loop-less : tie.Need-loop-less Inv-loop μ-loop
 loop-less c = rw length-set (omega arith)
 
@@ -44,9 +35,9 @@ clear-halves-spec =
     Inv-loop
     μ-loop
     loop-holds
-    mul-halves
-    slice-write-halves
-    add-i
+    (λ c. search needs)  -- mul-halves
+    (λ c. search needs)  -- slice-write-halves
+    (λ c. search needs)  -- add-i
     loop-less
     loop-again
     same-length

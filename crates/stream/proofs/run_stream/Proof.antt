@@ -23,20 +23,8 @@ clear-box-requires c κs = search needs
 loop-holds : tie.Need-loop-holds Inv-loop μ-loop
 loop-holds c = (running-start _ _ _ _ _ (c .clear-box .ensures .0) (c .clear-box .ensures .1) (c .clear-box .ensures .2), refl)
 
-sub-rest : tie.Need-sub-rest Inv-loop μ-loop
-sub-rest c = search needs
-
-part-rest-start : tie.Need-part-rest-start Inv-loop μ-loop
-part-rest-start c = search needs
-
-part-rest-end : tie.Need-part-rest-end Inv-loop μ-loop
-part-rest-end c = search needs
-
 take-record-requires : tie.Need-take-record-requires Inv-loop μ-loop
 take-record-requires c κs = c .before .before .before .before .before .before .before .before .loop .inv .0 .held
-
-same-length : tie.Need-same-length Inv-loop μ-loop
-same-length c = search needs
 
 returns : tie.Need-returns Inv-loop μ-loop
 returns c = running-stops _ _ _ _ _ _ _ _ (c .before .before .before .before .before .before .before .before .before .before .before .before .before .before .loop .inv .0) _ _ _ _ _ _ _ (c .before .before .before .before .before .take-record .ensures) (whole-rest (c .before .before .before .before .before .before .before .before .before .before .before .before .before .before .before .before .before .before .before .before .before .before .before .before .args .bytes .now) (c .before .before .before .before .before .before .before .before .before .before .before .before .before .before .loop .at)) (c .if1 .taken)
@@ -61,11 +49,11 @@ run-stream-spec =
     μ-loop
     clear-box-requires
     loop-holds
-    sub-rest
-    part-rest-start
-    part-rest-end
+    (λ c. search needs)  -- sub-rest
+    (λ c. search needs)  -- part-rest-start
+    (λ c. search needs)  -- part-rest-end
     take-record-requires
-    same-length
+    (λ c. search needs)  -- same-length
     returns
     add-at
     add-past

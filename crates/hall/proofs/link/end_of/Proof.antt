@@ -4,15 +4,9 @@ use Rattle.meaning.specs.Hall.{endNumber}
 use Rattle.hall.proofs.link.end_of.Statement.{statement}
 use Rattle.hall.proofs.link.end_of.Tie as tie
 
-cast-t4 : tie.Need-cast-t4
-cast-t4 c = search needs
-
 returns : tie.Need-returns
 unfolding endNumber
 returns c = search needs
-
-cast-t6 : tie.Need-cast-t6
-cast-t6 c = search needs
 
 returns-2 : tie.Need-returns-2
 unfolding endNumber
@@ -23,4 +17,9 @@ unfolding endNumber
 returns-3 c = search needs
 
 pub end-of-spec : {M : Type 1} → statement M
-end-of-spec = tie.close (tie.spec cast-t4 returns cast-t6 returns-2 returns-3)
+end-of-spec = tie.close (tie.spec
+    (λ c. search needs)  -- cast-t4
+    returns
+    (λ c. search needs)  -- cast-t6
+    returns-2
+    returns-3)

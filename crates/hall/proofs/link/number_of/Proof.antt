@@ -6,24 +6,6 @@ use Rattle.meaning.specs.Hall.{endNumber}
 use Rattle.hall.proofs.link.number_of.Statement.{statement}
 use Rattle.hall.proofs.link.number_of.Tie as tie
 
-enum-known-end : tie.Need-enum-known-end
-enum-known-end c = search needs
-
-cast-result : tie.Need-cast-result
-cast-result c = search needs
-
-enum-known-end-2 : tie.Need-enum-known-end-2
-enum-known-end-2 c = search needs
-
-cast-result-2 : tie.Need-cast-result-2
-cast-result-2 c = search needs
-
-add-result : tie.Need-add-result
-add-result c = search needs
-
-enum-told : tie.Need-enum-told
-enum-told c = search needs
-
 returns : tie.Need-returns
 unfolding endNumber
 returns c = search needs
@@ -40,12 +22,12 @@ pub number-of-spec : {M : Type 1} → statement M
 number-of-spec =
     tie.close
     (tie.spec
-    enum-known-end
-    cast-result
-    enum-known-end-2
-    cast-result-2
-    add-result
-    enum-told
+    (λ c. search needs)  -- enum-known-end
+    (λ c. search needs)  -- cast-result
+    (λ c. search needs)  -- enum-known-end-2
+    (λ c. search needs)  -- cast-result-2
+    (λ c. search needs)  -- add-result
+    (λ c. search needs)  -- enum-told
     returns
     returns-2
     returns-3)

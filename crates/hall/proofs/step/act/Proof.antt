@@ -6,14 +6,8 @@ use Rattle.hall.proofs.Others.{question, told-leaves}
 use Rattle.hall.proofs.step.act.Statement.{statement}
 use Rattle.hall.proofs.step.act.Tie as tie
 
-enum-known-what : tie.Need-enum-known-what
-enum-known-what c = search needs
-
 take-insert-requires : tie.Need-take-insert-requires
 take-insert-requires c κs = search needs
-
-enum-known-what-2 : tie.Need-enum-known-what-2
-enum-known-what-2 c = search needs
 
 take-remove-requires : tie.Need-take-remove-requires
 take-remove-requires c κs = search needs
@@ -24,16 +18,10 @@ reply-requires c κs = search needs
 only-requires : tie.Need-only-requires
 only-requires c κs = search needs
 
-same-length : tie.Need-same-length
-same-length c = search needs
-
 returns : tie.Need-returns
 returns c =
     let u = c .before .before in
     u .take-insert .ensures ∙ told-leaves _ _ _ _ _ (u .before .before .before .before .before .before .before .before .what .given .1)
-
-same-length-2 : tie.Need-same-length-2
-same-length-2 c = search needs
 
 returns-2 : tie.Need-returns-2
 returns-2 c =
@@ -52,14 +40,14 @@ pub act-spec : {M : Type 1} → statement M
 act-spec =
     tie.close
     (tie.spec
-    enum-known-what
+    (λ c. search needs)  -- enum-known-what
     take-insert-requires
-    enum-known-what-2
+    (λ c. search needs)  -- enum-known-what-2
     take-remove-requires
     reply-requires
     only-requires
-    same-length
+    (λ c. search needs)  -- same-length
     returns
-    same-length-2
+    (λ c. search needs)  -- same-length-2
     returns-2
     returns-3)

@@ -7,20 +7,11 @@ use Rattle.hall.proofs.Others.{not-before}
 use Rattle.hall.proofs.step.set_up.Statement.{statement}
 use Rattle.hall.proofs.step.set_up.Tie as tie
 
-enum-known-what : tie.Need-enum-known-what
-enum-known-what c = search needs
-
 take-hall-requires : tie.Need-take-hall-requires
 take-hall-requires c κs = search needs
 
-enum-known-what-2 : tie.Need-enum-known-what-2
-enum-known-what-2 c = search needs
-
 take-link-requires : tie.Need-take-link-requires
 take-link-requires c κs = search needs
-
-enum-told : tie.Need-enum-told
-enum-told c = search needs
 
 take-close-requires : tie.Need-take-close-requires
 take-close-requires c κs = search needs
@@ -53,11 +44,11 @@ pub set-up-spec : {M : Type 1} → statement M
 set-up-spec =
     tie.close
     (tie.spec
-    enum-known-what
+    (λ c. search needs)  -- enum-known-what
     take-hall-requires
-    enum-known-what-2
+    (λ c. search needs)  -- enum-known-what-2
     take-link-requires
-    enum-told
+    (λ c. search needs)  -- enum-told
     take-close-requires
     only-requires
     returns

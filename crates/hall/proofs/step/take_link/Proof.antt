@@ -23,26 +23,14 @@ passes c = clear-link _ _ _ _ (sym (c .before .before .check-link .ensures [] []
 check-link-requires : tie.Need-check-link-requires
 check-link-requires c κs = search needs
 
-enum-known-k : tie.Need-enum-known-k
-enum-known-k c = search needs
-
 only-requires : tie.Need-only-requires
 only-requires c κs = search needs
-
-enum-told : tie.Need-enum-told
-enum-told c = search needs
 
 end-from-requires : tie.Need-end-from-requires
 end-from-requires c κs = (passes c .code, passes c .drop)
 
 pack-requires : tie.Need-pack-requires
 pack-requires c κs = omega (arith, passes (c .before) .source, c .before .before .before .before .pre)
-
-cast-link : tie.Need-cast-link
-cast-link c = search needs
-
-mul-link : tie.Need-mul-link
-mul-link c = search needs
 
 element-write-link : tie.Need-element-write-link
 element-write-link c = passes (c .before .before .before) .room
@@ -72,13 +60,13 @@ take-link-spec =
     tie.close
     (tie.spec
     check-link-requires
-    enum-known-k
+    (λ c. search needs)  -- enum-known-k
     only-requires
-    enum-told
+    (λ c. search needs)  -- enum-told
     end-from-requires
     pack-requires
-    cast-link
-    mul-link
+    (λ c. search needs)  -- cast-link
+    (λ c. search needs)  -- mul-link
     element-write-link
     add-t18
     returns

@@ -18,20 +18,11 @@ returns c =
 read-record-requires : tie.Need-read-record-requires
 read-record-requires c κs = search needs
 
-enum-told : tie.Need-enum-told
-enum-told c = search needs
-
 only-requires-2 : tie.Need-only-requires-2
 only-requires-2 c κs = search needs
 
-enum-known-k : tie.Need-enum-known-k
-enum-known-k c = search needs
-
 only-requires-3 : tie.Need-only-requires-3
 only-requires-3 c κs = search needs
-
-enum-known-what : tie.Need-enum-known-what
-enum-known-what c = search needs
 
 phase-of-requires : tie.Need-phase-of-requires
 phase-of-requires c κs = search needs
@@ -89,9 +80,6 @@ returns-5 c =
     rw (c .only3 .ensures)
     (unread-leaves _ _ _ _ (l .before .before .before .pre) (l .if1 .left) _ ∙ read-leaves _ _ _ _ (sym (read-once _ _ (d .read-record .ensures)) ∙ k .k .given .1))
 
-same-length : tie.Need-same-length
-same-length c = search needs
-
 returns-6 : tie.Need-returns-6
 returns-6 c =
     let a = c .before .before in
@@ -105,11 +93,11 @@ take-record-spec =
     only-requires
     returns
     read-record-requires
-    enum-told
+    (λ c. search needs)  -- enum-told
     only-requires-2
-    enum-known-k
+    (λ c. search needs)  -- enum-known-k
     only-requires-3
-    enum-known-what
+    (λ c. search needs)  -- enum-known-what
     phase-of-requires
     only-requires-4
     returns-2
@@ -118,5 +106,5 @@ take-record-spec =
     act-requires
     returns-4
     returns-5
-    same-length
+    (λ c. search needs)  -- same-length
     returns-6)

@@ -9,11 +9,11 @@ use Rattle.print.proofs.line.is_full.Lts as lts
 returns : tie.Need-returns
 returns c = search (needs, too-short)
 
-sub-result : tie.Need-sub-result
-sub-result c = search needs
-
 returns-2 : tie.Need-returns-2
 returns-2 c = search (needs, too-late)
 
 pub is-full-spec : {M : Type 1} → statement M
-is-full-spec = tie.close (tie.spec returns sub-result returns-2)
+is-full-spec = tie.close (tie.spec
+    returns
+    (λ c. search needs)  -- sub-result
+    returns-2)

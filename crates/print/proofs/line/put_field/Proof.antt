@@ -14,13 +14,14 @@ put-number-requires c κs = search needs
 put-byte-requires : tie.Need-put-byte-requires
 put-byte-requires c κs = search needs
 
-same-length : tie.Need-same-length
-same-length c = search needs
-
 returns : tie.Need-returns
 returns c =
     let d = c .before .before in
     both (d .before .before .before .before .put-number .ensures) (d .put-byte .ensures)
 
 pub put-field-spec : {M : Type 1} → statement M
-put-field-spec = tie.close (tie.spec put-number-requires put-byte-requires same-length returns)
+put-field-spec = tie.close (tie.spec
+    put-number-requires
+    put-byte-requires
+    (λ c. search needs)  -- same-length
+    returns)

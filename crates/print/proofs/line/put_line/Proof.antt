@@ -13,17 +13,11 @@ use Rattle.print.proofs.line.write_line.Reads as write-line-reads
 is-full-requires : tie.Need-is-full-requires
 is-full-requires c κs = search needs
 
-same-length : tie.Need-same-length
-same-length c = search needs
-
 returns : tie.Need-returns
 returns c = unwritten (ltb-true _ _ (sym (c .before .is-full .ensures) ∙ c .if1 .taken))
 
 write-line-requires : tie.Need-write-line-requires
 write-line-requires c κs = let e = c .before in ltb-false _ _ (sym (e .before .is-full .ensures) ∙ e .if1 .left)
-
-same-length-2 : tie.Need-same-length-2
-same-length-2 c = search needs
 
 returns-2 : tie.Need-returns-2
 returns-2 c =
@@ -33,4 +27,10 @@ returns-2 c =
 pub put-line-spec : {M : Type 1} → statement M
 put-line-spec =
     tie.close
-    (tie.spec is-full-requires same-length returns write-line-requires same-length-2 returns-2)
+    (tie.spec
+    is-full-requires
+    (λ c. search needs)  -- same-length
+    returns
+    write-line-requires
+    (λ c. search needs)  -- same-length-2
+    returns-2)

@@ -19,9 +19,6 @@ put-byte-requires c κs = search needs
 put-byte-requires-2 : tie.Need-put-byte-requires-2
 put-byte-requires-2 c κs = search needs
 
-same-length : tie.Need-same-length
-same-length c = search needs
-
 returns : tie.Need-returns
 returns c =
     let d = c .before .before in
@@ -34,9 +31,6 @@ put-short-requires c κs = search needs
 
 put-byte-requires-3 : tie.Need-put-byte-requires-3
 put-byte-requires-3 c κs = search needs
-
-same-length-2 : tie.Need-same-length-2
-same-length-2 c = search needs
 
 returns-2 : tie.Need-returns-2
 returns-2 c =
@@ -51,9 +45,9 @@ put-link-spec =
     (tie.spec
     put-byte-requires
     put-byte-requires-2
-    same-length
+    (λ c. search needs)  -- same-length
     returns
     put-short-requires
     put-byte-requires-3
-    same-length-2
+    (λ c. search needs)  -- same-length-2
     returns-2)

@@ -19,9 +19,6 @@ put-start-requires c κs = search needs
 put-field-requires : tie.Need-put-field-requires
 put-field-requires c κs = search needs
 
-same-length : tie.Need-same-length
-same-length c = search needs
-
 returns : tie.Need-returns
 returns c =
     let d₂ = c .before .before in
@@ -30,4 +27,8 @@ returns c =
     also refl (omega arith) (join (decimal (a .place)) (a .text .now) (d₁ .put-start .ensures) (d₂ .put-field .ensures))
 
 pub put-one-spec : {M : Type 1} → statement M
-put-one-spec = tie.close (tie.spec put-start-requires put-field-requires same-length returns)
+put-one-spec = tie.close (tie.spec
+    put-start-requires
+    put-field-requires
+    (λ c. search needs)  -- same-length
+    returns)

@@ -14,13 +14,14 @@ put-number-requires c κs = search needs
 put-text-requires : tie.Need-put-text-requires
 put-text-requires c κs = search needs
 
-same-length : tie.Need-same-length
-same-length c = search needs
-
 returns : tie.Need-returns
 returns c =
     let d = c .before .before in
     both (d .before .before .before .before .put-number .ensures) (d .put-text .ensures)
 
 pub put-start-spec : {M : Type 1} → statement M
-put-start-spec = tie.close (tie.spec put-number-requires put-text-requires same-length returns)
+put-start-spec = tie.close (tie.spec
+    put-number-requires
+    put-text-requires
+    (λ c. search needs)  -- same-length
+    returns)

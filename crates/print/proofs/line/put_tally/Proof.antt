@@ -15,9 +15,6 @@ use Rattle.print.proofs.line.put_tally.Lts as lts
 use Rattle.print.proofs.line.put_field.Reads as put-field-reads
 use Rattle.print.proofs.line.put_start.Reads as put-start-reads
 
-slice-aggregate-put-start : tie.Need-slice-aggregate-put-start
-slice-aggregate-put-start c = search needs
-
 put-start-requires : tie.Need-put-start-requires
 put-start-requires c κs = search needs
 
@@ -29,9 +26,6 @@ put-field-requires-2 c κs = search needs
 
 put-field-requires-3 : tie.Need-put-field-requires-3
 put-field-requires-3 c κs = search needs
-
-same-length : tie.Need-same-length
-same-length c = search needs
 
 returns : tie.Need-returns
 unfolding line word values said
@@ -50,10 +44,10 @@ pub put-tally-spec : {M : Type 1} → statement M
 put-tally-spec =
     tie.close
     (tie.spec
-    slice-aggregate-put-start
+    (λ c. search needs)  -- slice-aggregate-put-start
     put-start-requires
     put-field-requires
     put-field-requires-2
     put-field-requires-3
-    same-length
+    (λ c. search needs)  -- same-length
     returns)

@@ -22,9 +22,6 @@ put-field-requires c κs = search needs
 put-field-requires-2 : tie.Need-put-field-requires-2
 put-field-requires-2 c κs = search needs
 
-same-length : tie.Need-same-length
-same-length c = search needs
-
 returns : tie.Need-returns
 returns c =
     let d₃ = c .before .before in
@@ -38,4 +35,9 @@ returns c =
 pub put-two-spec : {M : Type 1} → statement M
 put-two-spec =
     tie.close
-    (tie.spec put-start-requires put-field-requires put-field-requires-2 same-length returns)
+    (tie.spec
+    put-start-requires
+    put-field-requires
+    put-field-requires-2
+    (λ c. search needs)  -- same-length
+    returns)

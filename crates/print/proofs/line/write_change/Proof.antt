@@ -15,9 +15,6 @@ use Rattle.print.proofs.line.put_field.Reads as put-field-reads
 use Rattle.print.proofs.line.put_link.Reads as put-link-reads
 use Rattle.print.proofs.number.put_text.Reads as put-text-reads
 
-slice-aggregate-put-text : tie.Need-slice-aggregate-put-text
-slice-aggregate-put-text c = search needs
-
 put-text-requires : tie.Need-put-text-requires
 put-text-requires c κs = search needs
 
@@ -35,9 +32,6 @@ put-link-requires c κs = search needs
 
 put-link-requires-2 : tie.Need-put-link-requires-2
 put-link-requires-2 c κs = search needs
-
-same-length : tie.Need-same-length
-same-length c = search needs
 
 returns : tie.Need-returns
 unfolding change
@@ -60,12 +54,12 @@ pub write-change-spec : {M : Type 1} → statement M
 write-change-spec =
     tie.close
     (tie.spec
-    slice-aggregate-put-text
+    (λ c. search needs)  -- slice-aggregate-put-text
     put-text-requires
     put-field-requires
     put-field-requires-2
     put-field-requires-3
     put-link-requires
     put-link-requires-2
-    same-length
+    (λ c. search needs)  -- same-length
     returns)

@@ -15,101 +15,35 @@ use Rattle.print.proofs.line.put_start.Reads as put-start-reads
 use Rattle.print.proofs.line.put_tally.Reads as put-tally-reads
 use Rattle.print.proofs.line.put_two.Reads as put-two-reads
 
-enum-told : tie.Need-enum-told
-enum-told c = search needs
-
-slice-aggregate-put-start : tie.Need-slice-aggregate-put-start
-slice-aggregate-put-start c = search needs
-
 put-start-requires : tie.Need-put-start-requires
 put-start-requires c κs = search needs
-
-enum-known-answer : tie.Need-enum-known-answer
-enum-known-answer c = search needs
-
-slice-aggregate-put-one : tie.Need-slice-aggregate-put-one
-slice-aggregate-put-one c = search needs
-
-cast-put-one : tie.Need-cast-put-one
-cast-put-one c = search needs
 
 put-one-requires : tie.Need-put-one-requires
 put-one-requires c κs = search needs
 
-enum-told-2 : tie.Need-enum-told-2
-enum-told-2 c = search needs
-
-slice-aggregate-put-start-2 : tie.Need-slice-aggregate-put-start-2
-slice-aggregate-put-start-2 c = search needs
-
 put-start-requires-2 : tie.Need-put-start-requires-2
 put-start-requires-2 c κs = search needs
-
-enum-known-answer-2 : tie.Need-enum-known-answer-2
-enum-known-answer-2 c = search needs
-
-slice-aggregate-put-one-2 : tie.Need-slice-aggregate-put-one-2
-slice-aggregate-put-one-2 c = search needs
-
-cast-put-one-2 : tie.Need-cast-put-one-2
-cast-put-one-2 c = search needs
 
 put-one-requires-2 : tie.Need-put-one-requires-2
 put-one-requires-2 c κs = search needs
 
-enum-known-answer-3 : tie.Need-enum-known-answer-3
-enum-known-answer-3 c = search needs
-
-slice-aggregate-put-two : tie.Need-slice-aggregate-put-two
-slice-aggregate-put-two c = search needs
-
-cast-put-two : tie.Need-cast-put-two
-cast-put-two c = search needs
-
 put-two-requires : tie.Need-put-two-requires
 put-two-requires c κs = search needs
-
-enum-told-3 : tie.Need-enum-told-3
-enum-told-3 c = search needs
-
-slice-aggregate-put-start-3 : tie.Need-slice-aggregate-put-start-3
-slice-aggregate-put-start-3 c = search needs
 
 put-start-requires-3 : tie.Need-put-start-requires-3
 put-start-requires-3 c κs = search needs
 
-enum-known-answer-4 : tie.Need-enum-known-answer-4
-enum-known-answer-4 c = search needs
-
 put-fate-requires : tie.Need-put-fate-requires
 put-fate-requires c κs = search needs
-
-enum-known-answer-5 : tie.Need-enum-known-answer-5
-enum-known-answer-5 c = search needs
-
-slice-aggregate-put-one-3 : tie.Need-slice-aggregate-put-one-3
-slice-aggregate-put-one-3 c = search needs
 
 put-one-requires-3 : tie.Need-put-one-requires-3
 put-one-requires-3 c κs = search needs
 
-enum-told-4 : tie.Need-enum-told-4
-enum-told-4 c = search needs
-
-slice-aggregate-put-start-4 : tie.Need-slice-aggregate-put-start-4
-slice-aggregate-put-start-4 c = search needs
-
 put-start-requires-4 : tie.Need-put-start-requires-4
 put-start-requires-4 c κs = search needs
 
-enum-known-answer-6 : tie.Need-enum-known-answer-6
-enum-known-answer-6 c = search needs
-
 put-tally-requires : tie.Need-put-tally-requires
 put-tally-requires c κs = search needs
-
-same-length : tie.Need-same-length
-same-length c = search needs
 
 returns : tie.Need-returns
 unfolding line word values said
@@ -118,18 +52,12 @@ returns c =
     let a = d .before .before .before .before .before .before .args in
     also (sym (ap (line (a .place)) (d .before .before .before .enum-told .given .1))) (omega arith) (d .put-start .ensures)
 
-same-length-2 : tie.Need-same-length-2
-same-length-2 c = search needs
-
 returns-2 : tie.Need-returns-2
 unfolding line word values said
 returns-2 c =
     let d = c .before .before in
     let a = d .before .before .before .before .before .before .before .args in
     also (sym (ap (line (a .place)) (d .before .before .before .before .answer .given .1))) (omega arith) (d .put-one .ensures)
-
-same-length-3 : tie.Need-same-length-3
-same-length-3 c = search needs
 
 returns-3 : tie.Need-returns-3
 unfolding line word values said
@@ -138,18 +66,12 @@ returns-3 c =
     let a = d .before .before .before .before .before .before .args in
     also (sym (ap (line (a .place)) (d .before .before .before .enum-told2 .given .1))) (omega arith) (d .put-start2 .ensures)
 
-same-length-4 : tie.Need-same-length-4
-same-length-4 c = search needs
-
 returns-4 : tie.Need-returns-4
 unfolding line word values said
 returns-4 c =
     let d = c .before .before in
     let a = d .before .before .before .before .before .before .before .args in
     also (sym (ap (line (a .place)) (d .before .before .before .before .answer2 .given .1))) (omega arith) (d .put-one2 .ensures)
-
-same-length-5 : tie.Need-same-length-5
-same-length-5 c = search needs
 
 returns-5 : tie.Need-returns-5
 unfolding line word values said
@@ -158,18 +80,12 @@ returns-5 c =
     let a = d .before .before .before .before .before .before .before .args in
     also (sym (ap (line (a .place)) (d .before .before .before .before .answer3 .given .1))) (omega arith) (d .put-two .ensures)
 
-same-length-6 : tie.Need-same-length-6
-same-length-6 c = search needs
-
 returns-6 : tie.Need-returns-6
 unfolding line word values said
 returns-6 c =
     let d = c .before .before in
     let a = d .before .before .before .before .before .before .args in
     also (sym (ap (line (a .place)) (d .before .before .before .enum-told3 .given .1))) (omega arith) (d .put-start3 .ensures)
-
-same-length-7 : tie.Need-same-length-7
-same-length-7 c = search needs
 
 returns-7 : tie.Need-returns-7
 unfolding line word values said
@@ -178,9 +94,6 @@ returns-7 c =
     let a = d .before .before .before .before .before .before .args in
     also (sym (ap (line (a .place)) (d .before .before .before .answer4 .given .1))) (omega arith) (d .put-fate .ensures)
 
-same-length-8 : tie.Need-same-length-8
-same-length-8 c = search needs
-
 returns-8 : tie.Need-returns-8
 unfolding line word values said
 returns-8 c =
@@ -188,18 +101,12 @@ returns-8 c =
     let a = d .before .before .before .before .before .before .before .args in
     also (sym (ap (line (a .place)) (d .before .before .before .before .answer5 .given .1))) (omega arith) (d .put-one3 .ensures)
 
-same-length-9 : tie.Need-same-length-9
-same-length-9 c = search needs
-
 returns-9 : tie.Need-returns-9
 unfolding line word values said
 returns-9 c =
     let d = c .before .before in
     let a = d .before .before .before .before .before .before .args in
     also (sym (ap (line (a .place)) (d .before .before .before .enum-told4 .given .1))) (omega arith) (d .put-start4 .ensures)
-
-same-length-10 : tie.Need-same-length-10
-same-length-10 c = search needs
 
 returns-10 : tie.Need-returns-10
 unfolding line word values said
@@ -212,54 +119,54 @@ pub write-line-spec : {M : Type 1} → statement M
 write-line-spec =
     tie.close
     (tie.spec
-    enum-told
-    slice-aggregate-put-start
+    (λ c. search needs)  -- enum-told
+    (λ c. search needs)  -- slice-aggregate-put-start
     put-start-requires
-    enum-known-answer
-    slice-aggregate-put-one
-    cast-put-one
+    (λ c. search needs)  -- enum-known-answer
+    (λ c. search needs)  -- slice-aggregate-put-one
+    (λ c. search needs)  -- cast-put-one
     put-one-requires
-    enum-told-2
-    slice-aggregate-put-start-2
+    (λ c. search needs)  -- enum-told-2
+    (λ c. search needs)  -- slice-aggregate-put-start-2
     put-start-requires-2
-    enum-known-answer-2
-    slice-aggregate-put-one-2
-    cast-put-one-2
+    (λ c. search needs)  -- enum-known-answer-2
+    (λ c. search needs)  -- slice-aggregate-put-one-2
+    (λ c. search needs)  -- cast-put-one-2
     put-one-requires-2
-    enum-known-answer-3
-    slice-aggregate-put-two
-    cast-put-two
+    (λ c. search needs)  -- enum-known-answer-3
+    (λ c. search needs)  -- slice-aggregate-put-two
+    (λ c. search needs)  -- cast-put-two
     put-two-requires
-    enum-told-3
-    slice-aggregate-put-start-3
+    (λ c. search needs)  -- enum-told-3
+    (λ c. search needs)  -- slice-aggregate-put-start-3
     put-start-requires-3
-    enum-known-answer-4
+    (λ c. search needs)  -- enum-known-answer-4
     put-fate-requires
-    enum-known-answer-5
-    slice-aggregate-put-one-3
+    (λ c. search needs)  -- enum-known-answer-5
+    (λ c. search needs)  -- slice-aggregate-put-one-3
     put-one-requires-3
-    enum-told-4
-    slice-aggregate-put-start-4
+    (λ c. search needs)  -- enum-told-4
+    (λ c. search needs)  -- slice-aggregate-put-start-4
     put-start-requires-4
-    enum-known-answer-6
+    (λ c. search needs)  -- enum-known-answer-6
     put-tally-requires
-    same-length
+    (λ c. search needs)  -- same-length
     returns
-    same-length-2
+    (λ c. search needs)  -- same-length-2
     returns-2
-    same-length-3
+    (λ c. search needs)  -- same-length-3
     returns-3
-    same-length-4
+    (λ c. search needs)  -- same-length-4
     returns-4
-    same-length-5
+    (λ c. search needs)  -- same-length-5
     returns-5
-    same-length-6
+    (λ c. search needs)  -- same-length-6
     returns-6
-    same-length-7
+    (λ c. search needs)  -- same-length-7
     returns-7
-    same-length-8
+    (λ c. search needs)  -- same-length-8
     returns-8
-    same-length-9
+    (λ c. search needs)  -- same-length-9
     returns-9
-    same-length-10
+    (λ c. search needs)  -- same-length-10
     returns-10)

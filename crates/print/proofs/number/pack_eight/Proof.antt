@@ -7,18 +7,6 @@ use Rattle.print.proofs.number.pack_eight.Tie as tie
 use Rattle.print.proofs.number.pack_eight.Reads as reads
 use Rattle.print.proofs.number.pack_eight.Lts as lts
 
-mul-halves : tie.Need-mul-halves
-mul-halves c = search needs
-
-add-halves : tie.Need-add-halves
-add-halves c = search needs
-
-mul-hundreds : tie.Need-mul-hundreds
-mul-hundreds c = search needs
-
-mul-pairs : tie.Need-mul-pairs
-mul-pairs c = search needs
-
 mul-pairs-2 : tie.Need-mul-pairs-2
 mul-pairs-2 c = record { fits = omega (arith, hundreds-are (c .args .n) (c .pre)) }
 
@@ -47,10 +35,10 @@ pub pack-eight-spec : {M : Type 1} → statement M
 pack-eight-spec =
     tie.close
     (tie.spec
-    mul-halves
-    add-halves
-    mul-hundreds
-    mul-pairs
+    (λ c. search needs)  -- mul-halves
+    (λ c. search needs)  -- add-halves
+    (λ c. search needs)  -- mul-hundreds
+    (λ c. search needs)  -- mul-pairs
     mul-pairs-2
     sub-pairs
     mul-tens

@@ -13,77 +13,26 @@ use Rattle.print.proofs.number.pack_eight.Reads as pack-eight-reads
 pack-eight-requires : tie.Need-pack-eight-requires
 pack-eight-requires c κs = search needs
 
-cast-buf : tie.Need-cast-buf
-cast-buf c = search needs
-
-slice-write-buf : tie.Need-slice-write-buf
-slice-write-buf c = search needs
-
-cast-buf-2 : tie.Need-cast-buf-2
-cast-buf-2 c = search needs
-
-add-buf : tie.Need-add-buf
-add-buf c = search needs
-
 slice-write-buf-2 : tie.Need-slice-write-buf-2
 slice-write-buf-2 c = simp length-set (omega arith)
-
-cast-buf-3 : tie.Need-cast-buf-3
-cast-buf-3 c = search needs
-
-add-buf-2 : tie.Need-add-buf-2
-add-buf-2 c = search needs
 
 slice-write-buf-3 : tie.Need-slice-write-buf-3
 slice-write-buf-3 c = simp length-set (omega arith)
 
-cast-buf-4 : tie.Need-cast-buf-4
-cast-buf-4 c = search needs
-
-add-buf-3 : tie.Need-add-buf-3
-add-buf-3 c = search needs
-
 slice-write-buf-4 : tie.Need-slice-write-buf-4
 slice-write-buf-4 c = simp length-set (omega arith)
-
-cast-buf-5 : tie.Need-cast-buf-5
-cast-buf-5 c = search needs
-
-add-buf-4 : tie.Need-add-buf-4
-add-buf-4 c = search needs
 
 slice-write-buf-5 : tie.Need-slice-write-buf-5
 slice-write-buf-5 c = simp length-set (omega arith)
 
-cast-buf-6 : tie.Need-cast-buf-6
-cast-buf-6 c = search needs
-
-add-buf-5 : tie.Need-add-buf-5
-add-buf-5 c = search needs
-
 slice-write-buf-6 : tie.Need-slice-write-buf-6
 slice-write-buf-6 c = simp length-set (omega arith)
-
-cast-buf-7 : tie.Need-cast-buf-7
-cast-buf-7 c = search needs
-
-add-buf-6 : tie.Need-add-buf-6
-add-buf-6 c = search needs
 
 slice-write-buf-7 : tie.Need-slice-write-buf-7
 slice-write-buf-7 c = simp length-set (omega arith)
 
-cast-buf-8 : tie.Need-cast-buf-8
-cast-buf-8 c = search needs
-
-add-buf-7 : tie.Need-add-buf-7
-add-buf-7 c = search needs
-
 slice-write-buf-8 : tie.Need-slice-write-buf-8
 slice-write-buf-8 c = simp length-set (omega arith)
-
-add-result : tie.Need-add-result
-add-result c = search needs
 
 same-length : tie.Need-same-length
 same-length c = simp length-set
@@ -98,29 +47,29 @@ put-eight-spec =
     tie.close
     (tie.spec
     pack-eight-requires
-    cast-buf
-    slice-write-buf
-    cast-buf-2
-    add-buf
+    (λ c. search needs)  -- cast-buf
+    (λ c. search needs)  -- slice-write-buf
+    (λ c. search needs)  -- cast-buf-2
+    (λ c. search needs)  -- add-buf
     slice-write-buf-2
-    cast-buf-3
-    add-buf-2
+    (λ c. search needs)  -- cast-buf-3
+    (λ c. search needs)  -- add-buf-2
     slice-write-buf-3
-    cast-buf-4
-    add-buf-3
+    (λ c. search needs)  -- cast-buf-4
+    (λ c. search needs)  -- add-buf-3
     slice-write-buf-4
-    cast-buf-5
-    add-buf-4
+    (λ c. search needs)  -- cast-buf-5
+    (λ c. search needs)  -- add-buf-4
     slice-write-buf-5
-    cast-buf-6
-    add-buf-5
+    (λ c. search needs)  -- cast-buf-6
+    (λ c. search needs)  -- add-buf-5
     slice-write-buf-6
-    cast-buf-7
-    add-buf-6
+    (λ c. search needs)  -- cast-buf-7
+    (λ c. search needs)  -- add-buf-6
     slice-write-buf-7
-    cast-buf-8
-    add-buf-7
+    (λ c. search needs)  -- cast-buf-8
+    (λ c. search needs)  -- add-buf-7
     slice-write-buf-8
-    add-result
+    (λ c. search needs)  -- add-result
     same-length
     returns)

@@ -13,44 +13,14 @@ use Rattle.print.proofs.number.pack_four.Reads as pack-four-reads
 pack-four-requires : tie.Need-pack-four-requires
 pack-four-requires c κs = search needs
 
-cast-buf : tie.Need-cast-buf
-cast-buf c = search needs
-
-slice-write-buf : tie.Need-slice-write-buf
-slice-write-buf c = search needs
-
-cast-buf-2 : tie.Need-cast-buf-2
-cast-buf-2 c = search needs
-
-add-buf : tie.Need-add-buf
-add-buf c = search needs
-
 slice-write-buf-2 : tie.Need-slice-write-buf-2
 slice-write-buf-2 c = simp length-set (omega arith)
-
-cast-buf-3 : tie.Need-cast-buf-3
-cast-buf-3 c = search needs
-
-add-buf-2 : tie.Need-add-buf-2
-add-buf-2 c = search needs
 
 slice-write-buf-3 : tie.Need-slice-write-buf-3
 slice-write-buf-3 c = simp length-set (omega arith)
 
-cast-buf-4 : tie.Need-cast-buf-4
-cast-buf-4 c = search needs
-
-add-buf-3 : tie.Need-add-buf-3
-add-buf-3 c = search needs
-
 slice-write-buf-4 : tie.Need-slice-write-buf-4
 slice-write-buf-4 c = simp length-set (omega arith)
-
-add-result : tie.Need-add-result
-add-result c = search needs
-
-same-length : tie.Need-same-length
-same-length c = search needs
 
 returns : tie.Need-returns
 returns c =
@@ -62,17 +32,17 @@ put-four-spec =
     tie.close
     (tie.spec
     pack-four-requires
-    cast-buf
-    slice-write-buf
-    cast-buf-2
-    add-buf
+    (λ c. search needs)  -- cast-buf
+    (λ c. search needs)  -- slice-write-buf
+    (λ c. search needs)  -- cast-buf-2
+    (λ c. search needs)  -- add-buf
     slice-write-buf-2
-    cast-buf-3
-    add-buf-2
+    (λ c. search needs)  -- cast-buf-3
+    (λ c. search needs)  -- add-buf-2
     slice-write-buf-3
-    cast-buf-4
-    add-buf-3
+    (λ c. search needs)  -- cast-buf-4
+    (λ c. search needs)  -- add-buf-3
     slice-write-buf-4
-    add-result
-    same-length
+    (λ c. search needs)  -- add-result
+    (λ c. search needs)  -- same-length
     returns)

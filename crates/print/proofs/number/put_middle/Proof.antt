@@ -14,20 +14,11 @@ use Rattle.print.proofs.number.put_small.Reads as put-small-reads
 put-small-requires : tie.Need-put-small-requires
 put-small-requires c κs = search needs
 
-same-length : tie.Need-same-length
-same-length c = search needs
-
-returns : tie.Need-returns
-returns c = search needs
-
 put-small-requires-2 : tie.Need-put-small-requires-2
 put-small-requires-2 c κs = search needs
 
 put-four-requires : tie.Need-put-four-requires
 put-four-requires c κs = search needs
-
-same-length-2 : tie.Need-same-length-2
-same-length-2 c = search needs
 
 returns-2 : tie.Need-returns-2
 returns-2 c =
@@ -40,9 +31,9 @@ put-middle-spec =
     tie.close
     (tie.spec
     put-small-requires
-    same-length
-    returns
+    (λ c. search needs)  -- same-length
+    (λ c. search needs)  -- returns
     put-small-requires-2
     put-four-requires
-    same-length-2
+    (λ c. search needs)  -- same-length-2
     returns-2)

@@ -12,17 +12,8 @@ use Rattle.print.proofs.number.put_byte.Reads as put-byte-reads
 use Rattle.print.proofs.number.put_number.Reads as put-number-reads
 use Rattle.print.proofs.number.put_pair.Reads as put-pair-reads
 
-cast-put-byte : tie.Need-cast-put-byte
-cast-put-byte c = search needs
-
-add-put-byte : tie.Need-add-put-byte
-add-put-byte c = search needs
-
 put-byte-requires : tie.Need-put-byte-requires
 put-byte-requires c κs = search needs
-
-same-length : tie.Need-same-length
-same-length c = search needs
 
 returns : tie.Need-returns
 returns c =
@@ -30,14 +21,8 @@ returns c =
     let n = d .before .before .before .before .args .n in
     also (sym (one n (omega arith))) (omega arith) (d .put-byte .ensures)
 
-cast-put-pair : tie.Need-cast-put-pair
-cast-put-pair c = search needs
-
 put-pair-requires : tie.Need-put-pair-requires
 put-pair-requires c κs = search needs
-
-same-length-2 : tie.Need-same-length-2
-same-length-2 c = search needs
 
 returns-2 : tie.Need-returns-2
 returns-2 c =
@@ -48,25 +33,19 @@ returns-2 c =
 put-number-requires : tie.Need-put-number-requires
 put-number-requires c κs = search needs
 
-same-length-3 : tie.Need-same-length-3
-same-length-3 c = search needs
-
-returns-3 : tie.Need-returns-3
-returns-3 c = search needs
-
 pub put-short-spec : {M : Type 1} → statement M
 put-short-spec =
     tie.close
     (tie.spec
-    cast-put-byte
-    add-put-byte
+    (λ c. search needs)  -- cast-put-byte
+    (λ c. search needs)  -- add-put-byte
     put-byte-requires
-    same-length
+    (λ c. search needs)  -- same-length
     returns
-    cast-put-pair
+    (λ c. search needs)  -- cast-put-pair
     put-pair-requires
-    same-length-2
+    (λ c. search needs)  -- same-length-2
     returns-2
     put-number-requires
-    same-length-3
-    returns-3)
+    (λ c. search needs)  -- same-length-3
+    (λ c. search needs))  -- returns-3

@@ -22,9 +22,6 @@ small a =
     let l = a .before .before .before in
     rw (a .atom-at .ensures) (small-atom _ _ _ (l .before .before .before .before .pre .0) _ (omega arith))
 
-cast-divide : tie.Need-cast-divide Inv-loop μ-loop
-cast-divide c = search needs
-
 divide-requires : tie.Need-divide-requires Inv-loop μ-loop
 divide-requires c κs =
     let s = c .before .before in
@@ -46,21 +43,6 @@ in-row-requires c κs = (omega arith, small (c .before))
 in-row-requires-2 : tie.Need-in-row-requires-2 Inv-loop μ-loop
 in-row-requires-2 c κs = (omega arith, small (c .before .before .before))
 
-add-counted : tie.Need-add-counted Inv-loop μ-loop
-add-counted c = search needs
-
-mul-counted : tie.Need-mul-counted Inv-loop μ-loop
-mul-counted c = search needs
-
-element-copy-out-counted : tie.Need-element-copy-out-counted Inv-loop μ-loop
-element-copy-out-counted c = search needs
-
-mul-counted-2 : tie.Need-mul-counted-2 Inv-loop μ-loop
-mul-counted-2 c = search needs
-
-element-copy-out-counted-2 : tie.Need-element-copy-out-counted-2 Inv-loop μ-loop
-element-copy-out-counted-2 c = search needs
-
 sub-counted : tie.Need-sub-counted Inv-loop μ-loop
 sub-counted c =
     let l = c .before .before .before .before .before .before .before .before .before in
@@ -71,12 +53,6 @@ counted-requires : tie.Need-counted-requires Inv-loop μ-loop
 counted-requires c κs =
     let l = c .before .before .before .before .before .before .before .before .before in
     tally-fits _ _ _ (l .before .before .before .before .pre .0) _ _ _ _ _ (omega arith) (l .loop .inv .1)
-
-add-p : tie.Need-add-p Inv-loop μ-loop
-add-p c = search needs
-
-loop-less : tie.Need-loop-less Inv-loop μ-loop
-loop-less c = search needs
 
 loop-again : tie.Need-loop-again Inv-loop μ-loop
 loop-again c =
@@ -105,21 +81,21 @@ count-fates-spec =
     (tie.spec
     Inv-loop
     μ-loop
-    cast-divide
+    (λ c. search needs)  -- cast-divide
     divide-requires
     loop-holds
     places-requires
     atom-at-requires
     in-row-requires
     in-row-requires-2
-    add-counted
-    mul-counted
-    element-copy-out-counted
-    mul-counted-2
-    element-copy-out-counted-2
+    (λ c. search needs)  -- add-counted
+    (λ c. search needs)  -- mul-counted
+    (λ c. search needs)  -- element-copy-out-counted
+    (λ c. search needs)  -- mul-counted-2
+    (λ c. search needs)  -- element-copy-out-counted-2
     sub-counted
     counted-requires
-    add-p
-    loop-less
+    (λ c. search needs)  -- add-p
+    (λ c. search needs)  -- loop-less
     loop-again
     returns)

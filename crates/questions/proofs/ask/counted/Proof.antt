@@ -31,23 +31,20 @@ module _ (c : Counts) (w : ℕ) where
   one-round (Lost v h) e g = absurd (true≢false g)
   one-round Round e g = record { out = omega arith; lost = omega arith; round = refl }
 
-add-t6 : tie.Need-add-t6
-add-t6 c = search needs
-
 returns : tie.Need-returns
 returns c = λ f o l. one-out _ _ f (o ∙ c .before .if1 .taken)
 
-add-t7 : tie.Need-add-t7
-add-t7 c = search needs
-
 returns-2 : tie.Need-returns-2
 returns-2 c = λ f o l. one-lost _ _ f (l ∙ c .before .if2 .taken)
-
-add-t8 : tie.Need-add-t8
-add-t8 c = search needs
 
 returns-3 : tie.Need-returns-3
 returns-3 c = λ f o l. one-round _ _ f (o ∙ c .before .before .if1 .left) (l ∙ c .before .if2 .left)
 
 pub counted-spec : {M : Type 1} → statement M
-counted-spec = tie.close (tie.spec add-t6 returns add-t7 returns-2 add-t8 returns-3)
+counted-spec = tie.close (tie.spec
+    (λ c. search needs)  -- add-t6
+    returns
+    (λ c. search needs)  -- add-t7
+    returns-2
+    (λ c. search needs)  -- add-t8
+    returns-3)

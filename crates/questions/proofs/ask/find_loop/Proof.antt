@@ -80,9 +80,6 @@ look-requires c κs =
     let W = a .before .before .before .before .before .before .pre in
     (small a, omega (arith, W .sound .small), W .sound .small, ends-of _ _ _ W, c .before .loop .inv .2)
 
-enum-told : tie.Need-enum-told Inv-loop μ-loop Inv-search μ-search
-enum-told c = search needs
-
 mul-t22 : tie.Need-mul-t22 Inv-loop μ-loop Inv-search μ-search
 mul-t22 c =
     let s = c .before .before .before .before .before .before .before .before in
@@ -92,9 +89,6 @@ element-copy-out-t25 : tie.Need-element-copy-out-t25 Inv-loop μ-loop Inv-search
 element-copy-out-t25 c =
     let s = c .before .before .before .before .before .before .before .before in
     omega (arith, s .before .before .before .before .pre .sound .cuts .room)
-
-enum-known-more : tie.Need-enum-known-more Inv-loop μ-loop Inv-search μ-search
-enum-known-more c = search needs
 
 first-on-requires-2 : tie.Need-first-on-requires-2 Inv-loop μ-loop Inv-search μ-search
 first-on-requires-2 c κs = search needs
@@ -114,12 +108,6 @@ loop-again c =
     let l = c .before .before .before .before .before .before in
     let q = rw (c .before .before .more .given .1) at (c .before .before .before .before .look .ensures) in
     (l .loop .inv .0, c .first-on2 .ensures .1, q .0)
-
-add-p : tie.Need-add-p Inv-loop μ-loop Inv-search μ-search
-add-p c = search needs
-
-search-less : tie.Need-search-less Inv-loop μ-loop Inv-search μ-search
-search-less c = search needs
 
 search-again : tie.Need-search-again Inv-loop μ-loop Inv-search μ-search
 search-again c =
@@ -157,15 +145,15 @@ find-loop-spec =
     first-on-requires
     loop-holds
     look-requires
-    enum-told
+    (λ c. search needs)  -- enum-told
     mul-t22
     element-copy-out-t25
-    enum-known-more
+    (λ c. search needs)  -- enum-known-more
     first-on-requires-2
     loop-less
     loop-again
-    add-p
-    search-less
+    (λ c. search needs)  -- add-p
+    (λ c. search needs)  -- search-less
     search-again
     returns-2
     returns-3)

@@ -44,22 +44,10 @@ comes-to-requires c κs =
     let q = rw (← c .atom-at .ensures) at (small-atom _ _ _ W _ (rw (s .before .places .ensures) at (c .before .loop-test .taken))) in
     (q, omega (arith, s .before .before .pre .1, W .sound .small), W .sound .small, ends-of _ _ _ W, s .toward-walks .ensures .each _ (together _ _ _ W) _ q)
 
-mul-t21 : tie.Need-mul-t21 Inv-loop μ-loop
-mul-t21 c = search needs
-
-element-copy-out-t24 : tie.Need-element-copy-out-t24 Inv-loop μ-loop
-element-copy-out-t24 c = search needs
-
 returns-2 : tie.Need-returns-2 Inv-loop μ-loop
 returns-2 c =
     let l = c .before .before .before .before .before in
     sym (reach-is _ _ _ (l .before .before .before .before .pre .0) _ _ _ (omega arith) (l .loop .inv .1) (rw (c .before .before .before .atom-at .ensures) at (sym (c .before .before .comes-to .ensures) ∙ c .before .if2 .taken)))
-
-add-p : tie.Need-add-p Inv-loop μ-loop
-add-p c = search needs
-
-loop-less : tie.Need-loop-less Inv-loop μ-loop
-loop-less c = search needs
 
 loop-again : tie.Need-loop-again Inv-loop μ-loop
 loop-again c =
@@ -84,10 +72,10 @@ find-reach-spec =
     loop-holds
     atom-at-requires
     comes-to-requires
-    mul-t21
-    element-copy-out-t24
+    (λ c. search needs)  -- mul-t21
+    (λ c. search needs)  -- element-copy-out-t24
     returns-2
-    add-p
-    loop-less
+    (λ c. search needs)  -- add-p
+    (λ c. search needs)  -- loop-less
     loop-again
     returns-3)

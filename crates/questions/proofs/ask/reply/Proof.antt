@@ -18,14 +18,8 @@ use Rattle.questions.proofs.ask.reply.Tie as tie
 returns : tie.Need-returns
 returns c = ap said (sym (reply-early _ _ (c .if1 .taken)))
 
-enum-told : tie.Need-enum-told
-enum-told c = search needs
-
 find-loop-requires : tie.Need-find-loop-requires
 find-loop-requires c κs = held-whole _ _ _ (c .before .before .before .before .pre)
-
-enum-known-what : tie.Need-enum-known-what
-enum-known-what c = search needs
 
 returns-2 : tie.Need-returns-2
 unfolding refusal when isQuestion phaseOf
@@ -35,9 +29,6 @@ returns-2 c =
 
 fate-from-requires : tie.Need-fate-from-requires
 fate-from-requires c κs = (c .before .before .before .before .before .before .before .pre, c .if2 .left)
-
-enum-known-what-2 : tie.Need-enum-known-what-2
-enum-known-what-2 c = search needs
 
 returns-3 : tie.Need-returns-3
 unfolding refusal when isQuestion phaseOf
@@ -57,9 +48,6 @@ find-reach-requires : tie.Need-find-reach-requires
 find-reach-requires c κs =
     let l = c .before .before in
     (held-whole _ _ _ (l .before .before .before .before .before .before .before .pre), l .if3 .left)
-
-enum-known-what-3 : tie.Need-enum-known-what-3
-enum-known-what-3 c = search needs
 
 returns-5 : tie.Need-returns-5
 unfolding refusal when isQuestion phaseOf
@@ -109,16 +97,16 @@ reply-spec =
     tie.close
     (tie.spec
     returns
-    enum-told
+    (λ c. search needs)  -- enum-told
     find-loop-requires
-    enum-known-what
+    (λ c. search needs)  -- enum-known-what
     returns-2
     fate-from-requires
-    enum-known-what-2
+    (λ c. search needs)  -- enum-known-what-2
     returns-3
     returns-4
     find-reach-requires
-    enum-known-what-3
+    (λ c. search needs)  -- enum-known-what-3
     returns-5
     count-fates-requires
     returns-6

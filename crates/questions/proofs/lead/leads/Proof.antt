@@ -20,15 +20,6 @@ loop-holds c = (omega arith, leads-none _ _ _)
 note-link-requires : tie.Need-note-link-requires Inv-loop μ-loop
 note-link-requires c κs = search needs
 
-add-l : tie.Need-add-l Inv-loop μ-loop
-add-l c = search needs
-
-loop-less : tie.Need-loop-less Inv-loop μ-loop
-loop-less c = search needs
-
-loop-again : tie.Need-loop-again Inv-loop μ-loop
-loop-again c = search needs
-
 returns : tie.Need-returns Inv-loop μ-loop
 returns c =
     let s = c .before in
@@ -38,4 +29,12 @@ returns c =
 pub leads-spec : {M : Type 1} → statement M
 leads-spec =
     tie.close
-    (tie.spec Inv-loop μ-loop loop-holds note-link-requires add-l loop-less loop-again returns)
+    (tie.spec
+    Inv-loop
+    μ-loop
+    loop-holds
+    note-link-requires
+    (λ c. search needs)  -- add-l
+    (λ c. search needs)  -- loop-less
+    (λ c. search needs)  -- loop-again
+    returns)

@@ -18,24 +18,6 @@ abbrev μ-loop : tie.MeasureT-loop
 loop-holds : tie.Need-loop-holds Inv-loop μ-loop
 loop-holds c = (omega arith, met-none _ _)
 
-cast-if1 : tie.Need-cast-if1 Inv-loop μ-loop
-cast-if1 c = search needs
-
-shr-if1 : tie.Need-shr-if1 Inv-loop μ-loop
-shr-if1 c = search needs
-
-mul-met : tie.Need-mul-met Inv-loop μ-loop
-mul-met c = search needs
-
-element-copy-out-met : tie.Need-element-copy-out-met Inv-loop μ-loop
-element-copy-out-met c = search needs
-
-add-v : tie.Need-add-v Inv-loop μ-loop
-add-v c = search needs
-
-loop-less : tie.Need-loop-less Inv-loop μ-loop
-loop-less c = search needs
-
 loop-again : tie.Need-loop-again Inv-loop μ-loop
 loop-again c =
     let l = c .before .before in
@@ -49,4 +31,15 @@ returns c =
     rw e at (l .loop .inv .1)
 
 pub led-to-spec : {M : Type 1} → statement M
-led-to-spec = tie.close (tie.spec Inv-loop μ-loop loop-holds cast-if1 shr-if1 mul-met element-copy-out-met add-v loop-less loop-again returns)
+led-to-spec = tie.close (tie.spec
+    Inv-loop
+    μ-loop
+    loop-holds
+    (λ c. search needs)  -- cast-if1
+    (λ c. search needs)  -- shr-if1
+    (λ c. search needs)  -- mul-met
+    (λ c. search needs)  -- element-copy-out-met
+    (λ c. search needs)  -- add-v
+    (λ c. search needs)  -- loop-less
+    loop-again
+    returns)

@@ -5,20 +5,8 @@ use Rattle.questions.proofs.Leads.{leads-let, leads-empty, leads-out, l
 use Rattle.questions.proofs.lead.note_link.Statement.{statement}
 use Rattle.questions.proofs.lead.note_link.Tie as tie
 
-mul-end : tie.Need-mul-end
-mul-end c = search needs
-
-element-copy-out-end : tie.Need-element-copy-out-end
-element-copy-out-end c = search needs
-
 returns : tie.Need-returns
 returns c = leads-out _ _ _ _ (c .before .before .pre .1) (c .if1 .taken)
-
-mul-source-of : tie.Need-mul-source-of
-mul-source-of c = search needs
-
-element-copy-out-source-of : tie.Need-element-copy-out-source-of
-element-copy-out-source-of c = search needs
 
 source-of-requires : tie.Need-source-of-requires
 source-of-requires c κs = search needs
@@ -44,11 +32,11 @@ pub note-link-spec : {M : Type 1} → statement M
 note-link-spec =
     tie.close
     (tie.spec
-    mul-end
-    element-copy-out-end
+    (λ c. search needs)  -- mul-end
+    (λ c. search needs)  -- element-copy-out-end
     returns
-    mul-source-of
-    element-copy-out-source-of
+    (λ c. search needs)  -- mul-source-of
+    (λ c. search needs)  -- element-copy-out-source-of
     source-of-requires
     returns-2
     carries-requires

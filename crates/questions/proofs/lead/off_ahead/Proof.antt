@@ -19,21 +19,6 @@ loop-holds c = (omega arith, off-none _)
 off-once-requires : tie.Need-off-once-requires Inv-loop μ-loop
 off-once-requires c κs = search needs
 
-returns : tie.Need-returns Inv-loop μ-loop
-returns c = search needs
-
-add-i : tie.Need-add-i Inv-loop μ-loop
-add-i c = search needs
-
-loop-less : tie.Need-loop-less Inv-loop μ-loop
-loop-less c = search needs
-
-loop-again : tie.Need-loop-again Inv-loop μ-loop
-loop-again c = search needs
-
-returns-2 : tie.Need-returns-2 Inv-loop μ-loop
-returns-2 c = search needs
-
 pub off-ahead-spec : {M : Type 1} → statement M
 off-ahead-spec =
     tie.close
@@ -42,8 +27,8 @@ off-ahead-spec =
     μ-loop
     loop-holds
     off-once-requires
-    returns
-    add-i
-    loop-less
-    loop-again
-    returns-2)
+    (λ c. search needs)  -- returns
+    (λ c. search needs)  -- add-i
+    (λ c. search needs)  -- loop-less
+    (λ c. search needs)  -- loop-again
+    (λ c. search needs))  -- returns-2

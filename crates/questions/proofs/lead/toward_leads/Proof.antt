@@ -15,12 +15,6 @@ Inv-loop lead w to₀ i₀ to i = (i ≤ 16) × (w < 16 → among to w ≡ true)
 abbrev μ-loop : tie.MeasureT-loop
 μ-loop lead w to₀ i₀ to i = 16 - i
 
-cast-to : tie.Need-cast-to Inv-loop μ-loop
-cast-to c = search needs
-
-shl-to : tie.Need-shl-to Inv-loop μ-loop
-shl-to c = search needs
-
 loop-holds : tie.Need-loop-holds Inv-loop μ-loop
 loop-holds c = (omega arith, toward-start _)
 
@@ -29,12 +23,6 @@ toward-once-requires c κs = search needs
 
 returns : tie.Need-returns Inv-loop μ-loop
 returns c = toward-settled _ _ _ _ (c .before .before .before .loop .inv .1) (c .before .toward-once .ensures) (c .if1 .taken)
-
-add-i : tie.Need-add-i Inv-loop μ-loop
-add-i c = search needs
-
-loop-less : tie.Need-loop-less Inv-loop μ-loop
-loop-less c = search needs
 
 loop-again : tie.Need-loop-again Inv-loop μ-loop
 loop-again c = (omega arith, λ h. c .before .toward-once .ensures .kept _ (c .before .before .before .loop .inv .1 h))
@@ -48,12 +36,12 @@ toward-leads-spec =
     (tie.spec
     Inv-loop
     μ-loop
-    cast-to
-    shl-to
+    (λ c. search needs)  -- cast-to
+    (λ c. search needs)  -- shl-to
     loop-holds
     toward-once-requires
     returns
-    add-i
-    loop-less
+    (λ c. search needs)  -- add-i
+    (λ c. search needs)  -- loop-less
     loop-again
     returns-2)

@@ -16,24 +16,6 @@ abbrev μ-loop : tie.MeasureT-loop
 loop-holds : tie.Need-loop-holds Inv-loop μ-loop
 loop-holds c = (omega arith, writing-none _ _ _ (empty-size _ (c .pre .1)))
 
-mul-stand : tie.Need-mul-stand Inv-loop μ-loop
-mul-stand c = search needs
-
-add-stand : tie.Need-add-stand Inv-loop μ-loop
-add-stand c = search needs
-
-mul-stand-2 : tie.Need-mul-stand-2 Inv-loop μ-loop
-mul-stand-2 c = search needs
-
-element-write-stand : tie.Need-element-write-stand Inv-loop μ-loop
-element-write-stand c = search needs
-
-add-j : tie.Need-add-j Inv-loop μ-loop
-add-j c = search needs
-
-loop-less : tie.Need-loop-less Inv-loop μ-loop
-loop-less c = search needs
-
 loop-again : tie.Need-loop-again Inv-loop μ-loop
 loop-again c =
     let l = c .before in
@@ -49,11 +31,11 @@ fill-row-spec =
     Inv-loop
     μ-loop
     loop-holds
-    mul-stand
-    add-stand
-    mul-stand-2
-    element-write-stand
-    add-j
-    loop-less
+    (λ c. search needs)  -- mul-stand
+    (λ c. search needs)  -- add-stand
+    (λ c. search needs)  -- mul-stand-2
+    (λ c. search needs)  -- element-write-stand
+    (λ c. search needs)  -- add-j
+    (λ c. search needs)  -- loop-less
     loop-again
     returns)

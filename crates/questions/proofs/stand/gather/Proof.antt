@@ -20,12 +20,6 @@ loop-holds c = (omega arith, gathered-none _ (c .pre))
 gather-row-requires : tie.Need-gather-row-requires Inv-loop μ-loop
 gather-row-requires c κs = (omega arith, c .before .before .loop .inv .1 .size)
 
-add-v : tie.Need-add-v Inv-loop μ-loop
-add-v c = search needs
-
-loop-less : tie.Need-loop-less Inv-loop μ-loop
-loop-less c = search needs
-
 loop-again : tie.Need-loop-again Inv-loop μ-loop
 loop-again c =
     let l = c .before .before .before in
@@ -40,4 +34,12 @@ returns c =
 pub gather-spec : {M : Type 1} → statement M
 gather-spec =
     tie.close
-    (tie.spec Inv-loop μ-loop loop-holds gather-row-requires add-v loop-less loop-again returns)
+    (tie.spec
+    Inv-loop
+    μ-loop
+    loop-holds
+    gather-row-requires
+    (λ c. search needs)  -- add-v
+    (λ c. search needs)  -- loop-less
+    loop-again
+    returns)

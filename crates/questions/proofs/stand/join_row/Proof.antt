@@ -16,60 +16,6 @@ abbrev μ-loop : tie.MeasureT-loop
 loop-holds : tie.Need-loop-holds Inv-loop μ-loop
 loop-holds c = (omega arith, joining-none _ _ _ _ _ (c .pre .3))
 
-mul-old : tie.Need-mul-old Inv-loop μ-loop
-mul-old c = search needs
-
-add-old : tie.Need-add-old Inv-loop μ-loop
-add-old c = search needs
-
-mul-old-2 : tie.Need-mul-old-2 Inv-loop μ-loop
-mul-old-2 c = search needs
-
-element-copy-out-old : tie.Need-element-copy-out-old Inv-loop μ-loop
-element-copy-out-old c = search needs
-
-mul-new : tie.Need-mul-new Inv-loop μ-loop
-mul-new c = search needs
-
-add-new : tie.Need-add-new Inv-loop μ-loop
-add-new c = search needs
-
-mul-new-2 : tie.Need-mul-new-2 Inv-loop μ-loop
-mul-new-2 c = search needs
-
-element-copy-out-new : tie.Need-element-copy-out-new Inv-loop μ-loop
-element-copy-out-new c = search needs
-
-mul-new-3 : tie.Need-mul-new-3 Inv-loop μ-loop
-mul-new-3 c = search needs
-
-add-new-2 : tie.Need-add-new-2 Inv-loop μ-loop
-add-new-2 c = search needs
-
-mul-new-4 : tie.Need-mul-new-4 Inv-loop μ-loop
-mul-new-4 c = search needs
-
-element-copy-out-new-2 : tie.Need-element-copy-out-new-2 Inv-loop μ-loop
-element-copy-out-new-2 c = search needs
-
-mul-stand : tie.Need-mul-stand Inv-loop μ-loop
-mul-stand c = search needs
-
-add-stand : tie.Need-add-stand Inv-loop μ-loop
-add-stand c = search needs
-
-mul-stand-2 : tie.Need-mul-stand-2 Inv-loop μ-loop
-mul-stand-2 c = search needs
-
-element-write-stand : tie.Need-element-write-stand Inv-loop μ-loop
-element-write-stand c = search needs
-
-add-j : tie.Need-add-j Inv-loop μ-loop
-add-j c = search needs
-
-loop-less : tie.Need-loop-less Inv-loop μ-loop
-loop-less c = search needs
-
 loop-again : tie.Need-loop-again Inv-loop μ-loop
 loop-again c =
     let l = c .before .before .before .before in
@@ -85,23 +31,23 @@ join-row-spec =
     Inv-loop
     μ-loop
     loop-holds
-    mul-old
-    add-old
-    mul-old-2
-    element-copy-out-old
-    mul-new
-    add-new
-    mul-new-2
-    element-copy-out-new
-    mul-new-3
-    add-new-2
-    mul-new-4
-    element-copy-out-new-2
-    mul-stand
-    add-stand
-    mul-stand-2
-    element-write-stand
-    add-j
-    loop-less
+    (λ c. search needs)  -- mul-old
+    (λ c. search needs)  -- add-old
+    (λ c. search needs)  -- mul-old-2
+    (λ c. search needs)  -- element-copy-out-old
+    (λ c. search needs)  -- mul-new
+    (λ c. search needs)  -- add-new
+    (λ c. search needs)  -- mul-new-2
+    (λ c. search needs)  -- element-copy-out-new
+    (λ c. search needs)  -- mul-new-3
+    (λ c. search needs)  -- add-new-2
+    (λ c. search needs)  -- mul-new-4
+    (λ c. search needs)  -- element-copy-out-new-2
+    (λ c. search needs)  -- mul-stand
+    (λ c. search needs)  -- add-stand
+    (λ c. search needs)  -- mul-stand-2
+    (λ c. search needs)  -- element-write-stand
+    (λ c. search needs)  -- add-j
+    (λ c. search needs)  -- loop-less
     loop-again
     returns)

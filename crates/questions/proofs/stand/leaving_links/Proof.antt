@@ -19,32 +19,17 @@ abbrev μ-loop : tie.MeasureT-loop
 loop-holds : tie.Need-loop-holds Inv-loop μ-loop
 loop-holds c = (omega arith, leaving-none _ _ (c .pre .1))
 
-mul-word : tie.Need-mul-word Inv-loop μ-loop
-mul-word c = search needs
-
-element-copy-out-word : tie.Need-element-copy-out-word Inv-loop μ-loop
-element-copy-out-word c = search needs
-
 shl-leaving : tie.Need-shl-leaving Inv-loop μ-loop
 shl-leaving c = omega (arith, c .before .before .before .before .pre .0 .few)
 
 source-of-requires : tie.Need-source-of-requires Inv-loop μ-loop
 source-of-requires c κs = search needs
 
-mul-leaving : tie.Need-mul-leaving Inv-loop μ-loop
-mul-leaving c = search needs
-
 element-copy-out-leaving : tie.Need-element-copy-out-leaving Inv-loop μ-loop
 element-copy-out-leaving c = rw (c .source-of .ensures .0) (c .before .before .before .before .before .pre .0 .source _ (omega arith))
 
 element-write-leaving : tie.Need-element-write-leaving Inv-loop μ-loop
 element-write-leaving c = rw (c .before .source-of .ensures .0) (c .before .before .before .before .before .before .pre .0 .source _ (omega arith))
-
-add-l : tie.Need-add-l Inv-loop μ-loop
-add-l c = search needs
-
-loop-less : tie.Need-loop-less Inv-loop μ-loop
-loop-less c = search needs
 
 loop-again : tie.Need-loop-again Inv-loop μ-loop
 unfolding endIn
@@ -71,14 +56,14 @@ leaving-links-spec =
     Inv-loop
     μ-loop
     loop-holds
-    mul-word
-    element-copy-out-word
+    (λ c. search needs)  -- mul-word
+    (λ c. search needs)  -- element-copy-out-word
     shl-leaving
     source-of-requires
-    mul-leaving
+    (λ c. search needs)  -- mul-leaving
     element-copy-out-leaving
     element-write-leaving
-    add-l
-    loop-less
+    (λ c. search needs)  -- add-l
+    (λ c. search needs)  -- loop-less
     loop-again
     returns)

@@ -19,12 +19,6 @@ abbrev μ-loop : tie.MeasureT-loop
 loop-holds : tie.Need-loop-holds Inv-loop μ-loop
 loop-holds c = (omega arith, outward-none _ _ _ (c .pre .1))
 
-mul-word : tie.Need-mul-word Inv-loop μ-loop
-mul-word c = search needs
-
-element-copy-out-word : tie.Need-element-copy-out-word Inv-loop μ-loop
-element-copy-out-word c = search needs
-
 source-of-requires : tie.Need-source-of-requires Inv-loop μ-loop
 source-of-requires c κs = search needs
 
@@ -33,12 +27,6 @@ join-row-requires c κs =
     let l = c .before .before .before .before .before in
     let D = l .before .pre .0 in
     (omega (arith, D .few), rw (c .source-of .ensures .0) (D .source _ (omega arith)), omega arith, l .loop .inv .1 .size)
-
-add-l : tie.Need-add-l Inv-loop μ-loop
-add-l c = search needs
-
-loop-less : tie.Need-loop-less Inv-loop μ-loop
-loop-less c = search needs
 
 loop-again : tie.Need-loop-again Inv-loop μ-loop
 unfolding endIn
@@ -65,11 +53,11 @@ outward-spec =
     Inv-loop
     μ-loop
     loop-holds
-    mul-word
-    element-copy-out-word
+    (λ c. search needs)  -- mul-word
+    (λ c. search needs)  -- element-copy-out-word
     source-of-requires
     join-row-requires
-    add-l
-    loop-less
+    (λ c. search needs)  -- add-l
+    (λ c. search needs)  -- loop-less
     loop-again
     returns)

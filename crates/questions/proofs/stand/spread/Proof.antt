@@ -19,12 +19,6 @@ fill-row-requires c κs = search needs
 leaving-links-requires : tie.Need-leaving-links-requires Inv-loop μ-loop
 leaving-links-requires c κs = (c .before .before .before .pre .0, refl)
 
-mul-from : tie.Need-mul-from Inv-loop μ-loop
-mul-from c = search needs
-
-array-read-from : tie.Need-array-read-from Inv-loop μ-loop
-array-read-from c = search needs
-
 loop-holds : tie.Need-loop-holds Inv-loop μ-loop
 loop-holds c =
     let p = c .before .before .before .before .pre in
@@ -40,12 +34,6 @@ returns c =
     let l = c .before .before .before .before .before in
     let h = l .before .before .before .before .before .pre .1 in
     waves-done h (waves-more h (l .loop .inv .1) (c .before .spread-once .ensures)) (c .if1 .taken)
-
-add-i : tie.Need-add-i Inv-loop μ-loop
-add-i c = search needs
-
-loop-less : tie.Need-loop-less Inv-loop μ-loop
-loop-less c = search needs
 
 loop-again : tie.Need-loop-again Inv-loop μ-loop
 loop-again c =
@@ -63,12 +51,12 @@ spread-spec =
     μ-loop
     fill-row-requires
     leaving-links-requires
-    mul-from
-    array-read-from
+    (λ c. search needs)  -- mul-from
+    (λ c. search needs)  -- array-read-from
     loop-holds
     spread-once-requires
     returns
-    add-i
-    loop-less
+    (λ c. search needs)  -- add-i
+    (λ c. search needs)  -- loop-less
     loop-again
     returns-2)

@@ -7,21 +7,12 @@ use borrow.Author.Needs.{needs}
 use Rattle.questions.proofs.stand.spread_along.Statement.{statement}
 use Rattle.questions.proofs.stand.spread_along.Tie as tie
 
-mul-word : tie.Need-mul-word
-mul-word c = search needs
-
-element-copy-out-word : tie.Need-element-copy-out-word
-element-copy-out-word c = search needs
-
 returns : tie.Need-returns
 unfolding endIn
 returns c = along-none _ _ _ _ _ (c .before .before .pre .3) (λ h. omega (arith, h, c .if1 .taken))
 
 source-of-requires : tie.Need-source-of-requires
 source-of-requires c κs = search needs
-
-cast-join-row : tie.Need-cast-join-row
-cast-join-row c = search needs
 
 join-row-requires : tie.Need-join-row-requires
 join-row-requires c κs =
@@ -34,15 +25,6 @@ returns-2 c =
     let s = c .before .before .before in
     along-still (s .before .before .before .pre .1) (c .before .join-row .ensures) (s .source-of .ensures .0) refl (omega (arith, s .before .if1 .left)) (c .if2 .taken)
 
-cast-result : tie.Need-cast-result
-cast-result c = search needs
-
-mul-result : tie.Need-mul-result
-mul-result c = search needs
-
-element-copy-out-result : tie.Need-element-copy-out-result
-element-copy-out-result c = search needs
-
 returns-3 : tie.Need-returns-3
 unfolding endIn
 returns-3 c =
@@ -54,14 +36,14 @@ pub spread-along-spec : {M : Type 1} → statement M
 spread-along-spec =
     tie.close
     (tie.spec
-    mul-word
-    element-copy-out-word
+    (λ c. search needs)  -- mul-word
+    (λ c. search needs)  -- element-copy-out-word
     returns
     source-of-requires
-    cast-join-row
+    (λ c. search needs)  -- cast-join-row
     join-row-requires
     returns-2
-    cast-result
-    mul-result
-    element-copy-out-result
+    (λ c. search needs)  -- cast-result
+    (λ c. search needs)  -- mul-result
+    (λ c. search needs)  -- element-copy-out-result
     returns-3)

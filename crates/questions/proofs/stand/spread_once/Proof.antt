@@ -21,9 +21,6 @@ cast-l c = omega (arith, trailing-le 64 (c .args .from))
 loop-holds : tie.Need-loop-holds Inv-loop μ-loop
 loop-holds c = (refl, going-start _ _ _ _ _ (c .pre .2) (c .pre .3))
 
-shl-left : tie.Need-shl-left Inv-loop μ-loop
-shl-left c = search needs
-
 spread-along-requires : tie.Need-spread-along-requires Inv-loop μ-loop
 spread-along-requires c κs =
     let l = c .before .before in
@@ -62,7 +59,7 @@ spread-once-spec =
     μ-loop
     cast-l
     loop-holds
-    shl-left
+    (λ c. search needs)  -- shl-left
     spread-along-requires
     cast-l-2
     loop-less

@@ -19,12 +19,6 @@ abbrev μ-loop : tie.MeasureT-loop
 loop-holds : tie.Need-loop-holds Inv-loop μ-loop
 loop-holds c = (omega arith, stayed-none _ _ _ (c .pre .2))
 
-mul-word : tie.Need-mul-word Inv-loop μ-loop
-mul-word c = search needs
-
-element-copy-out-word : tie.Need-element-copy-out-word Inv-loop μ-loop
-element-copy-out-word c = search needs
-
 source-of-requires : tie.Need-source-of-requires Inv-loop μ-loop
 source-of-requires c κs = search needs
 
@@ -33,12 +27,6 @@ take-row-requires c κs =
     let l = c .before .before .before .before .before in
     let P = l .before .pre in
     (omega (arith, P .0 .few), rw (c .source-of .ensures .0) (P .0 .source _ (omega arith)), l .loop .inv .1 .size, P .1)
-
-add-l : tie.Need-add-l Inv-loop μ-loop
-add-l c = search needs
-
-loop-less : tie.Need-loop-less Inv-loop μ-loop
-loop-less c = search needs
 
 loop-again : tie.Need-loop-again Inv-loop μ-loop
 unfolding endIn
@@ -64,11 +52,11 @@ stay-spec =
     Inv-loop
     μ-loop
     loop-holds
-    mul-word
-    element-copy-out-word
+    (λ c. search needs)  -- mul-word
+    (λ c. search needs)  -- element-copy-out-word
     source-of-requires
     take-row-requires
-    add-l
-    loop-less
+    (λ c. search needs)  -- add-l
+    (λ c. search needs)  -- loop-less
     loop-again
     returns)

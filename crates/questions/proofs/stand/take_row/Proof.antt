@@ -16,39 +16,6 @@ abbrev μ-loop : tie.MeasureT-loop
 loop-holds : tie.Need-loop-holds Inv-loop μ-loop
 loop-holds c = (omega arith, taking-none _ _ _ _ (c .pre .2))
 
-mul-stand : tie.Need-mul-stand Inv-loop μ-loop
-mul-stand c = search needs
-
-add-stand : tie.Need-add-stand Inv-loop μ-loop
-add-stand c = search needs
-
-mul-stand-2 : tie.Need-mul-stand-2 Inv-loop μ-loop
-mul-stand-2 c = search needs
-
-element-copy-out-stand : tie.Need-element-copy-out-stand Inv-loop μ-loop
-element-copy-out-stand c = search needs
-
-mul-stand-3 : tie.Need-mul-stand-3 Inv-loop μ-loop
-mul-stand-3 c = search needs
-
-add-stand-2 : tie.Need-add-stand-2 Inv-loop μ-loop
-add-stand-2 c = search needs
-
-mul-stand-4 : tie.Need-mul-stand-4 Inv-loop μ-loop
-mul-stand-4 c = search needs
-
-element-copy-out-stand-2 : tie.Need-element-copy-out-stand-2 Inv-loop μ-loop
-element-copy-out-stand-2 c = search needs
-
-element-write-stand : tie.Need-element-write-stand Inv-loop μ-loop
-element-write-stand c = search needs
-
-add-j : tie.Need-add-j Inv-loop μ-loop
-add-j c = search needs
-
-loop-less : tie.Need-loop-less Inv-loop μ-loop
-loop-less c = search needs
-
 loop-again : tie.Need-loop-again Inv-loop μ-loop
 loop-again c =
     let l = c .before .before .before in
@@ -64,16 +31,16 @@ take-row-spec =
     Inv-loop
     μ-loop
     loop-holds
-    mul-stand
-    add-stand
-    mul-stand-2
-    element-copy-out-stand
-    mul-stand-3
-    add-stand-2
-    mul-stand-4
-    element-copy-out-stand-2
-    element-write-stand
-    add-j
-    loop-less
+    (λ c. search needs)  -- mul-stand
+    (λ c. search needs)  -- add-stand
+    (λ c. search needs)  -- mul-stand-2
+    (λ c. search needs)  -- element-copy-out-stand
+    (λ c. search needs)  -- mul-stand-3
+    (λ c. search needs)  -- add-stand-2
+    (λ c. search needs)  -- mul-stand-4
+    (λ c. search needs)  -- element-copy-out-stand-2
+    (λ c. search needs)  -- element-write-stand
+    (λ c. search needs)  -- add-j
+    (λ c. search needs)  -- loop-less
     loop-again
     returns)

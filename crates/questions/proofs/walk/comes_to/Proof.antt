@@ -27,12 +27,6 @@ returns c =
     let l = c .before .before in
     sym (comes-now _ _ _ _ _ _ (l .loop .inv .2) _ (omega arith) (c .if1 .taken))
 
-cast-if2 : tie.Need-cast-if2 Inv-loop μ-loop
-cast-if2 c = search needs
-
-shr-if2 : tie.Need-shr-if2 Inv-loop μ-loop
-shr-if2 c = search needs
-
 returns-2 : tie.Need-returns-2 Inv-loop μ-loop
 returns-2 c =
     let l = c .before .before .before in
@@ -41,24 +35,12 @@ returns-2 c =
 move-from-requires : tie.Need-move-from-requires Inv-loop μ-loop
 move-from-requires c κs = search needs
 
-enum-known-u : tie.Need-enum-known-u Inv-loop μ-loop
-enum-known-u c = search needs
-
-enum-told : tie.Need-enum-told Inv-loop μ-loop
-enum-told c = search needs
-
 returns-3 : tie.Need-returns-3 Inv-loop μ-loop
 unfolding led
 returns-3 c =
     let l = c .before .before .before .before .before .before in
     let q = rw (c .enum-told .given .1) at (c .before .before .move-from .ensures) in
     sym (comes-never _ _ _ _ _ _ (l .loop .inv .2) (not-now _ _ _ _ _ _ (l .loop .inv .2) (l .loop .inv .3) (c .before .before .before .before .if1 .left)) q _)
-
-add-i : tie.Need-add-i Inv-loop μ-loop
-add-i c = search needs
-
-loop-less : tie.Need-loop-less Inv-loop μ-loop
-loop-less c = search needs
 
 loop-again : tie.Need-loop-again Inv-loop μ-loop
 unfolding led
@@ -79,14 +61,14 @@ comes-to-spec =
     μ-loop
     loop-holds
     returns
-    cast-if2
-    shr-if2
+    (λ c. search needs)  -- cast-if2
+    (λ c. search needs)  -- shr-if2
     returns-2
     move-from-requires
-    enum-known-u
-    enum-told
+    (λ c. search needs)  -- enum-known-u
+    (λ c. search needs)  -- enum-told
     returns-3
-    add-i
-    loop-less
+    (λ c. search needs)  -- add-i
+    (λ c. search needs)  -- loop-less
     loop-again
     returns-4)

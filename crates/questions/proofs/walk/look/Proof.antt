@@ -34,17 +34,11 @@ loop-holds : tie.Need-loop-holds Inv-loop μ-loop
 unfolding after
 loop-holds c = (omega arith, omega arith, refl, (λ k h. absurd (omega arith)), trail-start _ _ _ _ _ (c .pre .4), inr refl, λ x e. e)
 
-cast-passed : tie.Need-cast-passed Inv-loop μ-loop
-cast-passed c = search needs
-
 shl-passed : tie.Need-shl-passed Inv-loop μ-loop
 shl-passed c = omega arith
 
 move-from-requires : tie.Need-move-from-requires Inv-loop μ-loop
 move-from-requires c κs = search needs
-
-enum-known-w : tie.Need-enum-known-w Inv-loop μ-loop
-enum-known-w c = search needs
 
 returns : tie.Need-returns Inv-loop μ-loop
 unfolding led seen
@@ -52,9 +46,6 @@ returns c =
     let l = c .before .before .before .before .before .before in
     let q = rw (c .before .before .w .given .1) at (c .before .before .before .before .move-from .ensures) in
     back-now _ _ _ _ _ (l .loop .inv .2) _ _ (omega arith) (q .0) (c .if1 .taken)
-
-cast-if2 : tie.Need-cast-if2 Inv-loop μ-loop
-cast-if2 c = search needs
 
 shr-if2 : tie.Need-shr-if2 Inv-loop μ-loop
 unfolding led
@@ -72,9 +63,6 @@ returns-2 c =
     let j = joined (l .before .args .off) (l .loop .passed) (l .loop .here) (l .before .args .v) (l .loop .inv .1) (l .loop .inv .5) (l .loop .inv .6) in
     (trail-off _ _ _ _ _ to off, j .0, j .1)
 
-enum-told : tie.Need-enum-told Inv-loop μ-loop
-enum-told c = search needs
-
 returns-3 : tie.Need-returns-3 Inv-loop μ-loop
 unfolding led seen
 returns-3 c =
@@ -83,12 +71,6 @@ returns-3 c =
     let to = trail-here _ _ _ _ _ (l .loop .inv .1) (l .loop .inv .4) in
     let j = joined (l .before .args .off) (l .loop .passed) (l .loop .here) (l .before .args .v) (l .loop .inv .1) (l .loop .inv .5) (l .loop .inv .6) in
     (trail-off _ _ _ _ _ to (no-circle _ _ _ q _), j .0, j .1)
-
-add-i : tie.Need-add-i Inv-loop μ-loop
-add-i c = search needs
-
-loop-less : tie.Need-loop-less Inv-loop μ-loop
-loop-less c = search needs
 
 loop-again : tie.Need-loop-again Inv-loop μ-loop
 unfolding led
@@ -99,9 +81,6 @@ loop-again c =
     let to = trail-on _ _ _ _ _ (trail-here _ _ _ _ _ (l .loop .inv .1) (l .loop .inv .4)) _ (q .0) in
     let j = joined (l .before .args .off) (l .loop .passed) (l .loop .here) (l .before .args .v) (l .loop .inv .1) (l .loop .inv .5) (l .loop .inv .6) in
     (omega arith, q .1, step-to _ _ _ _ _ (l .loop .inv .2) _ (q .0), b, to, inl (j .0), j .1)
-
-shl-more : tie.Need-shl-more Inv-loop μ-loop
-shl-more c = search needs
 
 returns-4 : tie.Need-returns-4 Inv-loop μ-loop
 unfolding seen onCircle
@@ -119,18 +98,18 @@ look-spec =
     Inv-loop
     μ-loop
     loop-holds
-    cast-passed
+    (λ c. search needs)  -- cast-passed
     shl-passed
     move-from-requires
-    enum-known-w
+    (λ c. search needs)  -- enum-known-w
     returns
-    cast-if2
+    (λ c. search needs)  -- cast-if2
     shr-if2
     returns-2
-    enum-told
+    (λ c. search needs)  -- enum-told
     returns-3
-    add-i
-    loop-less
+    (λ c. search needs)  -- add-i
+    (λ c. search needs)  -- loop-less
     loop-again
-    shl-more
+    (λ c. search needs)  -- shl-more
     returns-4)

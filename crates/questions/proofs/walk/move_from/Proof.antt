@@ -13,18 +13,6 @@ returns : tie.Need-returns
 unfolding led
 returns c = no-owner _ _ _ (c .before .before .pre .1) _ (rw (c .before .owner-at .ensures) at (c .if1 .taken))
 
-cast-l : tie.Need-cast-l
-cast-l c = search needs
-
-mul-end : tie.Need-mul-end
-mul-end c = search needs
-
-element-copy-out-end : tie.Need-element-copy-out-end
-element-copy-out-end c = search needs
-
-cast-t14 : tie.Need-cast-t14
-cast-t14 c = search needs
-
 returns-2 : tie.Need-returns-2
 unfolding led endIn
 returns-2 c =
@@ -46,9 +34,9 @@ move-from-spec =
     (tie.spec
     owner-at-requires
     returns
-    cast-l
-    mul-end
-    element-copy-out-end
-    cast-t14
+    (λ c. search needs)  -- cast-l
+    (λ c. search needs)  -- mul-end
+    (λ c. search needs)  -- element-copy-out-end
+    (λ c. search needs)  -- cast-t14
     returns-2
     returns-3)

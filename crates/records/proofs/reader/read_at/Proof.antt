@@ -15,15 +15,6 @@ use Rattle.records.proofs.reader.read_at.Tie as tie
 returns : tie.Need-returns
 returns c = ap saidRead (read-past _ _ (c .if1 .taken))
 
-sub-read-record : tie.Need-sub-read-record
-sub-read-record c = search needs
-
-part-read-record-start : tie.Need-part-read-record-start
-part-read-record-start c = search needs
-
-part-read-record-end : tie.Need-part-read-record-end
-part-read-record-end c = search needs
-
 read-record-requires : tie.Need-read-record-requires
 read-record-requires c κs = search needs
 
@@ -37,8 +28,8 @@ read-at-spec =
     tie.close
     (tie.spec
     returns
-    sub-read-record
-    part-read-record-start
-    part-read-record-end
+    (λ c. search needs)  -- sub-read-record
+    (λ c. search needs)  -- part-read-record-start
+    (λ c. search needs)  -- part-read-record-end
     read-record-requires
     returns-2)

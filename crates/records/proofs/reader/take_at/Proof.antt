@@ -20,15 +20,6 @@ after at p n x y e f z = ap (λ (k : ℕ). at + k) z ∙ (sym f ∙ sym (ap (pla
 read-at-requires : tie.Need-read-at-requires
 read-at-requires c κs = search needs
 
-enum-known-read : tie.Need-enum-known-read
-enum-known-read c = search needs
-
-enum-told : tie.Need-enum-told
-enum-told c = search needs
-
-enum-told-2 : tie.Need-enum-told-2
-enum-told-2 c = search needs
-
 add-t7 : tie.Need-add-t7
 add-t7 c =
     let a = c .before .before .before .before .args in
@@ -50,4 +41,10 @@ returns c =
 
 pub take-at-spec : {M : Type 1} → statement M
 take-at-spec =
-    tie.close (tie.spec read-at-requires enum-known-read enum-told enum-told-2 add-t7 returns)
+    tie.close (tie.spec
+    read-at-requires
+    (λ c. search needs)  -- enum-known-read
+    (λ c. search needs)  -- enum-told
+    (λ c. search needs)  -- enum-told-2
+    add-t7
+    returns)

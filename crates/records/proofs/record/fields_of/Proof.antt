@@ -8,9 +8,6 @@ use Prim.Native.Nat.{ℕ, _≤_, _<_}
 use Rattle.records.proofs.record.fields_of.Statement.{statement}
 use Rattle.records.proofs.record.fields_of.Tie as tie
 
-shared-slice-read-kind : tie.Need-shared-slice-read-kind
-shared-slice-read-kind c = search needs
-
 -- a kind that is none of the others is 3
 third : (x : ℕ) → 0 < x → x ≤ 9 → (x ≡ 1 → ⊥) → (x ≡ 2 → ⊥) → (x ≡ 4 → ⊥) → (x ≡ 5 → ⊥) → (x ≡ 6 → ⊥) → (x ≡ 7 → ⊥) → (x ≡ 8 → ⊥) → (x ≡ 9 → ⊥) → x ≡ 3
 third x h k a b d e f g i j = low x h a b (λ m. let n = past 6 x (past 3 x m d e f) g i j in omega (arith, n, k))
@@ -113,7 +110,7 @@ pub fields-of-spec : {M : Type 1} → statement M
 fields-of-spec =
     tie.close
     (tie.spec
-    shared-slice-read-kind
+    (λ c. search needs)  -- shared-slice-read-kind
     one-requires
     one-requires-2
     one-requires-3

@@ -5,11 +5,10 @@ use Rattle.meaning.proofs.records.Reading.{byte}
 use Rattle.records.proofs.record.one.Statement.{statement}
 use Rattle.records.proofs.record.one.Tie as tie
 
-shared-slice-read-result : tie.Need-shared-slice-read-result
-shared-slice-read-result c = search needs
-
 returns : tie.Need-returns
 returns c = byte (c .before .args .s .now) (c .before .args .i) (omega (arith, c .shared-slice-known .given (c .before .args .i)))
 
 pub one-spec : {M : Type 1} → statement M
-one-spec = tie.close (tie.spec shared-slice-read-result returns)
+one-spec = tie.close (tie.spec
+    (λ c. search needs)  -- shared-slice-read-result
+    returns)

@@ -36,14 +36,8 @@ unknown b k h e = subst (λ (x : Body). bodyIn x k) e h
 returns : tie.Need-returns
 returns c = ap saidRead (read-end (c .before .before .args .s .now) (c .if1 .taken))
 
-shared-slice-read-body-of : tie.Need-shared-slice-read-body-of
-shared-slice-read-body-of c = search needs
-
 body-of-requires : tie.Need-body-of-requires
 body-of-requires c κs = search needs
-
-enum-known-n : tie.Need-enum-known-n
-enum-known-n c = search needs
 
 add-if2 : tie.Need-add-if2
 add-if2 c =
@@ -61,12 +55,6 @@ fields-of-requires c κs =
     let k = known _ _ _ (c .before .before .before .before .body-of .ensures) (c .before .before .n .given .1) in
     (k .from, k .upto, omega (arith, k .body, c .if2 .left))
 
-add-t9 : tie.Need-add-t9
-add-t9 c = search needs
-
-enum-told : tie.Need-enum-told
-enum-told c = search needs
-
 returns-3 : tie.Need-returns-3
 returns-3 c =
     let b = c .before .before .before .before .before in
@@ -83,13 +71,13 @@ read-record-spec =
     tie.close
     (tie.spec
     returns
-    shared-slice-read-body-of
+    (λ c. search needs)  -- shared-slice-read-body-of
     body-of-requires
-    enum-known-n
+    (λ c. search needs)  -- enum-known-n
     add-if2
     returns-2
     fields-of-requires
-    add-t9
-    enum-told
+    (λ c. search needs)  -- add-t9
+    (λ c. search needs)  -- enum-told
     returns-3
     returns-4)

@@ -6,20 +6,11 @@ use Rattle.meaning.proofs.records.Reading.{number-two}
 use Rattle.records.proofs.record.two.Statement.{statement}
 use Rattle.records.proofs.record.two.Tie as tie
 
-shared-slice-read-result : tie.Need-shared-slice-read-result
-shared-slice-read-result c = search needs
-
 cast-result : tie.Need-cast-result
 cast-result c = omega (arith, c .shared-slice-known .given (c .before .args .i))
 
 mul-result : tie.Need-mul-result
 mul-result c = omega (arith, c .shared-slice-known .given (c .before .args .i))
-
-add-result : tie.Need-add-result
-add-result c = search needs
-
-shared-slice-read-result-2 : tie.Need-shared-slice-read-result-2
-shared-slice-read-result-2 c = search needs
 
 cast-result-2 : tie.Need-cast-result-2
 cast-result-2 c = omega (arith, c .shared-slice-known2 .given (c .before .before .args .i + 1))
@@ -34,11 +25,11 @@ pub two-spec : {M : Type 1} → statement M
 two-spec =
     tie.close
     (tie.spec
-    shared-slice-read-result
+    (λ c. search needs)  -- shared-slice-read-result
     cast-result
     mul-result
-    add-result
-    shared-slice-read-result-2
+    (λ c. search needs)  -- add-result
+    (λ c. search needs)  -- shared-slice-read-result-2
     cast-result-2
     add-result-2
     returns)

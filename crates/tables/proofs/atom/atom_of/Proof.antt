@@ -4,9 +4,6 @@ use Rattle.lent.proofs.Labelled.{held-whole}
 use Rattle.tables.proofs.atom.atom_of.Statement.{statement}
 use Rattle.tables.proofs.atom.atom_of.Tie as tie
 
-cast-place-of : tie.Need-cast-place-of
-cast-place-of c = search needs
-
 place-of-requires : tie.Need-place-of-requires
 place-of-requires c κs = held-whole _ _ _ (c .before .pre .held) .sound .cuts
 
@@ -17,4 +14,8 @@ returns : tie.Need-returns
 returns c = rw (c .atom-at .ensures, c .before .place-of .ensures .0)
 
 pub atom-of-spec : {M : Type 1} → statement M
-atom-of-spec = tie.close (tie.spec cast-place-of place-of-requires atom-at-requires returns)
+atom-of-spec = tie.close (tie.spec
+    (λ c. search needs)  -- cast-place-of
+    place-of-requires
+    atom-at-requires
+    returns)

@@ -19,32 +19,11 @@ loop-holds c = (search needs, give-start _ _ _ _)
 owner-index-requires : tie.Need-owner-index-requires Inv-loop μ-loop
 owner-index-requires c κs = search needs
 
-mul-e : tie.Need-mul-e Inv-loop μ-loop
-mul-e c = search needs
-
-element-copy-out-e : tie.Need-element-copy-out-e Inv-loop μ-loop
-element-copy-out-e c = search needs
-
 owner-index-requires-2 : tie.Need-owner-index-requires-2 Inv-loop μ-loop
 owner-index-requires-2 c κs = search needs
 
-mul-owner : tie.Need-mul-owner Inv-loop μ-loop
-mul-owner c = search needs
-
-element-write-owner : tie.Need-element-write-owner Inv-loop μ-loop
-element-write-owner c = search needs
-
-cast-put : tie.Need-cast-put Inv-loop μ-loop
-cast-put c = search needs
-
 put-requires : tie.Need-put-requires Inv-loop μ-loop
 put-requires c κs = search needs
-
-add-v : tie.Need-add-v Inv-loop μ-loop
-add-v c = search needs
-
-loop-less : tie.Need-loop-less Inv-loop μ-loop
-loop-less c = search needs
 
 loop-again : tie.Need-loop-again Inv-loop μ-loop
 loop-again c =
@@ -71,14 +50,14 @@ give-spec =
     μ-loop
     loop-holds
     owner-index-requires
-    mul-e
-    element-copy-out-e
+    (λ c. search needs)  -- mul-e
+    (λ c. search needs)  -- element-copy-out-e
     owner-index-requires-2
-    mul-owner
-    element-write-owner
-    cast-put
+    (λ c. search needs)  -- mul-owner
+    (λ c. search needs)  -- element-write-owner
+    (λ c. search needs)  -- cast-put
     put-requires
-    add-v
-    loop-less
+    (λ c. search needs)  -- add-v
+    (λ c. search needs)  -- loop-less
     loop-again
     returns)

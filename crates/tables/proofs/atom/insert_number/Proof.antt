@@ -16,27 +16,6 @@ abbrev μ-loop : tie.MeasureT-loop
 loop-holds : tie.Need-loop-holds Inv-loop μ-loop
 loop-holds c = shift-start _ _ _ _ (omega arith) (λ q h. c .pre .0 .rest q (omega arith))
 
-add-loop : tie.Need-add-loop Inv-loop μ-loop
-add-loop c = search needs
-
-mul-old : tie.Need-mul-old Inv-loop μ-loop
-mul-old c = search needs
-
-element-copy-out-old : tie.Need-element-copy-out-old Inv-loop μ-loop
-element-copy-out-old c = search needs
-
-mul-number : tie.Need-mul-number Inv-loop μ-loop
-mul-number c = search needs
-
-element-write-number : tie.Need-element-write-number Inv-loop μ-loop
-element-write-number c = search needs
-
-add-j : tie.Need-add-j Inv-loop μ-loop
-add-j c = search needs
-
-loop-less : tie.Need-loop-less Inv-loop μ-loop
-loop-less c = search needs
-
 loop-again : tie.Need-loop-again Inv-loop μ-loop
 loop-again c = shift-step (c .before .before .loop .inv)
 
@@ -50,12 +29,12 @@ insert-number-spec =
     Inv-loop
     μ-loop
     loop-holds
-    add-loop
-    mul-old
-    element-copy-out-old
-    mul-number
-    element-write-number
-    add-j
-    loop-less
+    (λ c. search needs)  -- add-loop
+    (λ c. search needs)  -- mul-old
+    (λ c. search needs)  -- element-copy-out-old
+    (λ c. search needs)  -- mul-number
+    (λ c. search needs)  -- element-write-number
+    (λ c. search needs)  -- add-j
+    (λ c. search needs)  -- loop-less
     loop-again
     returns)

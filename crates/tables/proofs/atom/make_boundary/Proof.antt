@@ -21,12 +21,6 @@ numbered c = c .before .before .before .before .pre .1 .small _ (split c .place)
 place-of-requires : tie.Need-place-of-requires
 place-of-requires c κs = search needs
 
-mul-if1 : tie.Need-mul-if1
-mul-if1 c = search needs
-
-element-copy-out-if1 : tie.Need-element-copy-out-if1
-element-copy-out-if1 c = search needs
-
 returns : tie.Need-returns
 returns c =
     let q = c .before .before .place-of in
@@ -38,12 +32,6 @@ returns c =
 
 atom-at-requires : tie.Need-atom-at-requires
 atom-at-requires c κs = search needs
-
-cast-t19 : tie.Need-cast-t19
-cast-t19 c = search needs
-
-add-t13 : tie.Need-add-t13
-add-t13 c = search needs
 
 insert-cut-requires : tie.Need-insert-cut-requires
 insert-cut-requires c κs = let i = split (c .before .before .before) in (search needs, omega (arith, i .place, i .room))
@@ -57,9 +45,6 @@ give-requires c κs =
     let i = split (a .before .before) in
     let h = rw (← a .atom-at .ensures) at (numbered (a .before .before)) in
     (omega (arith, h, i .room), i .room, λ e. omega (arith, h), search needs)
-
-add-result : tie.Need-add-result
-add-result c = search needs
 
 returns-2 : tie.Need-returns-2
 returns-2 c =
@@ -76,14 +61,14 @@ make-boundary-spec =
     tie.close
     (tie.spec
     place-of-requires
-    mul-if1
-    element-copy-out-if1
+    (λ c. search needs)  -- mul-if1
+    (λ c. search needs)  -- element-copy-out-if1
     returns
     atom-at-requires
-    cast-t19
-    add-t13
+    (λ c. search needs)  -- cast-t19
+    (λ c. search needs)  -- add-t13
     insert-cut-requires
     insert-number-requires
     give-requires
-    add-result
+    (λ c. search needs)  -- add-result
     returns-2)

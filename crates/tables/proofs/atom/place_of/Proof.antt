@@ -13,29 +13,8 @@ Inv-loop cut n a low₀ high₀ low high = (low ≤ placeOf cut n a) × (placeOf
 abbrev μ-loop : tie.MeasureT-loop
 μ-loop cut n a low₀ high₀ low high = high - low
 
-add-high : tie.Need-add-high Inv-loop μ-loop
-add-high c = search needs
-
 loop-holds : tie.Need-loop-holds Inv-loop μ-loop
 loop-holds c = omega (arith, place-le (c .args .cut .now) (c .args .n) (c .args .a))
-
-add-loop : tie.Need-add-loop Inv-loop μ-loop
-add-loop c = search needs
-
-sub-middle : tie.Need-sub-middle Inv-loop μ-loop
-sub-middle c = search needs
-
-add-middle : tie.Need-add-middle Inv-loop μ-loop
-add-middle c = search needs
-
-mul-if1 : tie.Need-mul-if1 Inv-loop μ-loop
-mul-if1 c = search needs
-
-element-copy-out-if1 : tie.Need-element-copy-out-if1 Inv-loop μ-loop
-element-copy-out-if1 c = search needs
-
-loop-less : tie.Need-loop-less Inv-loop μ-loop
-loop-less c = search needs
 
 loop-again : tie.Need-loop-again Inv-loop μ-loop
 loop-again c =
@@ -44,9 +23,6 @@ loop-again c =
     let m = b .loop .low + (b .loop .high - b .loop .low) / 2 in
     omega (arith, place-max (g .cut .now) (g .n) (g .a) m (omega arith) (c .if1 .taken))
 
-loop-less-2 : tie.Need-loop-less-2 Inv-loop μ-loop
-loop-less-2 c = search needs
-
 loop-again-2 : tie.Need-loop-again-2 Inv-loop μ-loop
 loop-again-2 c =
     let b = c .before .before .before in
@@ -54,24 +30,21 @@ loop-again-2 c =
     let m = b .loop .low + (b .loop .high - b .loop .low) / 2 in
     omega (arith, place-lt (b .before .pre) (g .a) m (omega arith) (c .if1 .left))
 
-returns : tie.Need-returns Inv-loop μ-loop
-returns c = search needs
-
 pub place-of-spec : {M : Type 1} → statement M
 place-of-spec =
     tie.close
     (tie.spec
     Inv-loop
     μ-loop
-    add-high
+    (λ c. search needs)  -- add-high
     loop-holds
-    add-loop
-    sub-middle
-    add-middle
-    mul-if1
-    element-copy-out-if1
-    loop-less
+    (λ c. search needs)  -- add-loop
+    (λ c. search needs)  -- sub-middle
+    (λ c. search needs)  -- add-middle
+    (λ c. search needs)  -- mul-if1
+    (λ c. search needs)  -- element-copy-out-if1
+    (λ c. search needs)  -- loop-less
     loop-again
-    loop-less-2
+    (λ c. search needs)  -- loop-less-2
     loop-again-2
-    returns)
+    (λ c. search needs))  -- returns

@@ -3,11 +3,10 @@ use borrow.Author.Needs.{needs}
 use Rattle.tables.proofs.label.known.Statement.{statement}
 use Rattle.tables.proofs.label.known.Tie as tie
 
-shared-slice-read-w : tie.Need-shared-slice-read-w
-shared-slice-read-w c = search needs
-
 returns : tie.Need-returns
 returns c = record { size = search needs; word = λ i. c .shared-slice-known .given i .fits }
 
 pub known-spec : {M : Type 1} → statement M
-known-spec = tie.close (tie.spec shared-slice-read-w returns)
+known-spec = tie.close (tie.spec
+    (λ c. search needs)  -- shared-slice-read-w
+    returns)

@@ -5,29 +5,16 @@ use borrow.Author.Needs.{needs}
 use Rattle.tables.proofs.label.take_off.Statement.{statement}
 use Rattle.tables.proofs.label.take_off.Tie as tie
 
-cast-k : tie.Need-cast-k
-cast-k c = search needs
-
-shl-s : tie.Need-shl-s
-shl-s c = search needs
-
-mul-s : tie.Need-mul-s
-mul-s c = search needs
-
-add-s : tie.Need-add-s
-add-s c = search needs
-
-mul-s-2 : tie.Need-mul-s-2
-mul-s-2 c = search needs
-
-slice-read-s : tie.Need-slice-read-s
-slice-read-s c = search needs
-
-slice-write-s : tie.Need-slice-write-s
-slice-write-s c = search needs
-
 returns : tie.Need-returns
 returns c = taken-off-is (search needs) (search needs) (search needs) (rw mask)
 
 pub take-off-spec : {M : Type 1} → statement M
-take-off-spec = tie.close (tie.spec cast-k shl-s mul-s add-s mul-s-2 slice-read-s slice-write-s returns)
+take-off-spec = tie.close (tie.spec
+    (λ c. search needs)  -- cast-k
+    (λ c. search needs)  -- shl-s
+    (λ c. search needs)  -- mul-s
+    (λ c. search needs)  -- add-s
+    (λ c. search needs)  -- mul-s-2
+    (λ c. search needs)  -- slice-read-s
+    (λ c. search needs)  -- slice-write-s
+    returns)

@@ -19,23 +19,11 @@ abbrev μ-loop : tie.MeasureT-loop
 loop-holds : tie.Need-loop-holds Inv-loop μ-loop
 loop-holds c = (search needs, best-in-none _ _ _, search needs)
 
-mul-better-of : tie.Need-mul-better-of Inv-loop μ-loop
-mul-better-of c = search needs
-
-element-copy-out-better-of : tie.Need-element-copy-out-better-of Inv-loop μ-loop
-element-copy-out-better-of c = search needs
-
 cast-better-of : tie.Need-cast-better-of Inv-loop μ-loop
 cast-better-of c = let b = c .before .before in omega (arith, b .before .pre .1 (b .loop .j) (omega arith))
 
 better-of-requires : tie.Need-better-of-requires Inv-loop μ-loop
 better-of-requires c κs = let b = c .before .before in (b .before .pre .1 (b .loop .j) (omega arith), search needs)
-
-add-j : tie.Need-add-j Inv-loop μ-loop
-add-j c = search needs
-
-loop-less : tie.Need-loop-less Inv-loop μ-loop
-loop-less c = search needs
 
 loop-again : tie.Need-loop-again Inv-loop μ-loop
 loop-again c = (search needs, best-in-more _ _ _ _ _ _ (c .before .before .before .loop .inv .1) (c .better-of .ensures .0), search needs)
@@ -52,11 +40,11 @@ best-among-spec =
     Inv-loop
     μ-loop
     loop-holds
-    mul-better-of
-    element-copy-out-better-of
+    (λ c. search needs)  -- mul-better-of
+    (λ c. search needs)  -- element-copy-out-better-of
     cast-better-of
     better-of-requires
-    add-j
-    loop-less
+    (λ c. search needs)  -- add-j
+    (λ c. search needs)  -- loop-less
     loop-again
     returns)

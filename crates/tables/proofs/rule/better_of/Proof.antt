@@ -5,12 +5,6 @@ use Rattle.tables.proofs.Rules.{covers-below, covers-past, covers-betwe
 use Rattle.tables.proofs.rule.better_of.Statement.{statement}
 use Rattle.tables.proofs.rule.better_of.Tie as tie
 
-mul-x : tie.Need-mul-x
-mul-x c = search needs
-
-element-copy-out-x : tie.Need-element-copy-out-x
-element-copy-out-x c = search needs
-
 lower-of-requires : tie.Need-lower-of-requires
 lower-of-requires c κs = search needs
 
@@ -30,12 +24,6 @@ returns-3 c =
     let u = c .before .before in
     let l = u .before .before in
     (take-first _ _ _ _ (covers-between _ _ _ _ (l .lower-of .ensures .0) (u .upper-of .ensures .0) (u .before .if1 .left) (c .before .if2 .left)) (c .if3 .taken), search needs)
-
-mul-rank-of : tie.Need-mul-rank-of
-mul-rank-of c = search needs
-
-element-copy-out-rank-of : tie.Need-element-copy-out-rank-of
-element-copy-out-rank-of c = search needs
 
 rank-of-requires : tie.Need-rank-of-requires
 rank-of-requires c κs = search needs
@@ -65,15 +53,15 @@ pub better-of-spec : {M : Type 1} → statement M
 better-of-spec =
     tie.close
     (tie.spec
-    mul-x
-    element-copy-out-x
+    (λ c. search needs)  -- mul-x
+    (λ c. search needs)  -- element-copy-out-x
     lower-of-requires
     returns
     upper-of-requires
     returns-2
     returns-3
-    mul-rank-of
-    element-copy-out-rank-of
+    (λ c. search needs)  -- mul-rank-of
+    (λ c. search needs)  -- element-copy-out-rank-of
     rank-of-requires
     rank-of-requires-2
     returns-4

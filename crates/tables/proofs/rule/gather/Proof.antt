@@ -24,29 +24,14 @@ loop-holds c = (search needs, search needs, search needs, gathered-none)
 take-in-requires : tie.Need-take-in-requires Inv-loop μ-loop
 take-in-requires c κs = search needs
 
-add-take-in : tie.Need-add-take-in Inv-loop μ-loop
-add-take-in c = search needs
-
 take-in-requires-2 : tie.Need-take-in-requires-2 Inv-loop μ-loop
 take-in-requires-2 c κs = search needs
-
-add-take-in-2 : tie.Need-add-take-in-2 Inv-loop μ-loop
-add-take-in-2 c = search needs
 
 take-in-requires-3 : tie.Need-take-in-requires-3 Inv-loop μ-loop
 take-in-requires-3 c κs = search needs
 
-add-take-in-3 : tie.Need-add-take-in-3 Inv-loop μ-loop
-add-take-in-3 c = search needs
-
 take-in-requires-4 : tie.Need-take-in-requires-4 Inv-loop μ-loop
 take-in-requires-4 c κs = search needs
-
-add-i : tie.Need-add-i Inv-loop μ-loop
-add-i c = search needs
-
-loop-less : tie.Need-loop-less Inv-loop μ-loop
-loop-less c = search needs
 
 loop-again : tie.Need-loop-again Inv-loop μ-loop
 loop-again c =
@@ -73,13 +58,13 @@ gather-spec =
     links-at-requires
     loop-holds
     take-in-requires
-    add-take-in
+    (λ c. search needs)  -- add-take-in
     take-in-requires-2
-    add-take-in-2
+    (λ c. search needs)  -- add-take-in-2
     take-in-requires-3
-    add-take-in-3
+    (λ c. search needs)  -- add-take-in-3
     take-in-requires-4
-    add-i
-    loop-less
+    (λ c. search needs)  -- add-i
+    (λ c. search needs)  -- loop-less
     loop-again
     returns)

@@ -17,23 +17,8 @@ abbrev μ-loop : tie.MeasureT-loop
 loop-holds : tie.Need-loop-holds Inv-loop μ-loop
 loop-holds c = (search needs, lacks-none)
 
-mul-rank-gap : tie.Need-mul-rank-gap Inv-loop μ-loop
-mul-rank-gap c = search needs
-
-element-copy-out-rank-gap : tie.Need-element-copy-out-rank-gap Inv-loop μ-loop
-element-copy-out-rank-gap c = search needs
-
 rank-gap-requires : tie.Need-rank-gap-requires Inv-loop μ-loop
 rank-gap-requires c κs = search needs
-
-add-all : tie.Need-add-all Inv-loop μ-loop
-add-all c = search needs
-
-add-i : tie.Need-add-i Inv-loop μ-loop
-add-i c = search needs
-
-loop-less : tie.Need-loop-less Inv-loop μ-loop
-loop-less c = search needs
 
 loop-again : tie.Need-loop-again Inv-loop μ-loop
 loop-again c = (search needs, lacks-more (c .before .before .before .loop .inv .1) (c .rank-gap .ensures .0))
@@ -50,11 +35,11 @@ lacks-rank-spec =
     Inv-loop
     μ-loop
     loop-holds
-    mul-rank-gap
-    element-copy-out-rank-gap
+    (λ c. search needs)  -- mul-rank-gap
+    (λ c. search needs)  -- element-copy-out-rank-gap
     rank-gap-requires
-    add-all
-    add-i
-    loop-less
+    (λ c. search needs)  -- add-all
+    (λ c. search needs)  -- add-i
+    (λ c. search needs)  -- loop-less
     loop-again
     returns)

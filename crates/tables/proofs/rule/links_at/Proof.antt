@@ -19,29 +19,11 @@ abbrev μ-loop : tie.MeasureT-loop
 loop-holds : tie.Need-loop-holds Inv-loop μ-loop
 loop-holds c = (search needs, marked-none (search needs))
 
-mul-source-of : tie.Need-mul-source-of Inv-loop μ-loop
-mul-source-of c = search needs
-
-element-copy-out-source-of : tie.Need-element-copy-out-source-of Inv-loop μ-loop
-element-copy-out-source-of c = search needs
-
 source-of-requires : tie.Need-source-of-requires Inv-loop μ-loop
 source-of-requires c κs = search needs
 
 mask-of-requires : tie.Need-mask-of-requires Inv-loop μ-loop
 mask-of-requires c κs = search needs
-
-mul-s : tie.Need-mul-s Inv-loop μ-loop
-mul-s c = search needs
-
-slice-write-s : tie.Need-slice-write-s Inv-loop μ-loop
-slice-write-s c = search needs
-
-add-l : tie.Need-add-l Inv-loop μ-loop
-add-l c = search needs
-
-loop-less : tie.Need-loop-less Inv-loop μ-loop
-loop-less c = search needs
 
 loop-again : tie.Need-loop-again Inv-loop μ-loop
 loop-again c =
@@ -63,13 +45,13 @@ links-at-spec =
     Inv-loop
     μ-loop
     loop-holds
-    mul-source-of
-    element-copy-out-source-of
+    (λ c. search needs)  -- mul-source-of
+    (λ c. search needs)  -- element-copy-out-source-of
     source-of-requires
     mask-of-requires
-    mul-s
-    slice-write-s
-    add-l
-    loop-less
+    (λ c. search needs)  -- mul-s
+    (λ c. search needs)  -- slice-write-s
+    (λ c. search needs)  -- add-l
+    (λ c. search needs)  -- loop-less
     loop-again
     returns)

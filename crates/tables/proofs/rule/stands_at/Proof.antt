@@ -14,12 +14,6 @@ returns c = not-standing _ _ _ (c .if1 .taken)
 link-of-requires : tie.Need-link-of-requires
 link-of-requires c κs = search needs
 
-mul-source-of : tie.Need-mul-source-of
-mul-source-of c = search needs
-
-element-copy-out-source-of : tie.Need-element-copy-out-source-of
-element-copy-out-source-of c = search needs
-
 source-of-requires : tie.Need-source-of-requires
 source-of-requires c κs = search needs
 
@@ -35,7 +29,7 @@ stands-at-spec =
     (tie.spec
     returns
     link-of-requires
-    mul-source-of
-    element-copy-out-source-of
+    (λ c. search needs)  -- mul-source-of
+    (λ c. search needs)  -- element-copy-out-source-of
     source-of-requires
     returns-2)

@@ -8,14 +8,12 @@ use Rattle.tables.proofs.rule.stands_on.Tie as tie
 link-of-requires : tie.Need-link-of-requires
 link-of-requires c κs = search needs
 
-mul-result : tie.Need-mul-result
-mul-result c = search needs
-
-element-copy-out-result : tie.Need-element-copy-out-result
-element-copy-out-result c = search needs
-
 returns : tie.Need-returns
 returns c = live-marked _ (search needs) _ (now (c .before .before .args .here)) (c .before .link-of .ensures .0)
 
 pub stands-on-spec : {M : Type 1} → statement M
-stands-on-spec = tie.close (tie.spec link-of-requires mul-result element-copy-out-result returns)
+stands-on-spec = tie.close (tie.spec
+    link-of-requires
+    (λ c. search needs)  -- mul-result
+    (λ c. search needs)  -- element-copy-out-result
+    returns)

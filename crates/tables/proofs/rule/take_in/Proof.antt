@@ -6,29 +6,11 @@ use Rattle.tables.proofs.Rules.{stands-marked, gathered-take, gathered-
 use Rattle.tables.proofs.rule.take_in.Statement.{statement}
 use Rattle.tables.proofs.rule.take_in.Tie as tie
 
-mul-x : tie.Need-mul-x
-mul-x c = search needs
-
-element-copy-out-x : tie.Need-element-copy-out-x
-element-copy-out-x c = search needs
-
 stands-on-requires : tie.Need-stands-on-requires
 stands-on-requires c κs = search needs
 
 overlaps-requires : tie.Need-overlaps-requires
 overlaps-requires c κs = search needs
-
-cast-numbers : tie.Need-cast-numbers
-cast-numbers c = search needs
-
-mul-numbers : tie.Need-mul-numbers
-mul-numbers c = search needs
-
-slice-write-numbers : tie.Need-slice-write-numbers
-slice-write-numbers c = search needs
-
-add-result : tie.Need-add-result
-add-result c = search needs
 
 returns : tie.Need-returns
 returns c =
@@ -49,14 +31,14 @@ pub take-in-spec : {M : Type 1} → statement M
 take-in-spec =
     tie.close
     (tie.spec
-    mul-x
-    element-copy-out-x
+    (λ c. search needs)  -- mul-x
+    (λ c. search needs)  -- element-copy-out-x
     stands-on-requires
     overlaps-requires
-    cast-numbers
-    mul-numbers
-    slice-write-numbers
-    add-result
+    (λ c. search needs)  -- cast-numbers
+    (λ c. search needs)  -- mul-numbers
+    (λ c. search needs)  -- slice-write-numbers
+    (λ c. search needs)  -- add-result
     returns
     returns-2
     returns-3)

@@ -28,12 +28,6 @@ returns c = ties-nowhere _ (now (c .before .before .args .rule)) _ _ (c .before 
 loop-holds : tie.Need-loop-holds Inv-loop μ-loop
 loop-holds c = (search needs, any-none _)
 
-mul-ties-with : tie.Need-mul-ties-with Inv-loop μ-loop
-mul-ties-with c = search needs
-
-element-copy-out-ties-with : tie.Need-element-copy-out-ties-with Inv-loop μ-loop
-element-copy-out-ties-with c = search needs
-
 ties-with-requires : tie.Need-ties-with-requires Inv-loop μ-loop
 ties-with-requires c κs = search needs
 
@@ -41,12 +35,6 @@ returns-2 : tie.Need-returns-2 Inv-loop μ-loop
 returns-2 c =
     let b = c .before .before in
     sym (any-true _ 256 (b .before .before .loop .i) (omega arith) (sym (c .before .ties-with .ensures) ∙ c .if2 .taken))
-
-add-i : tie.Need-add-i Inv-loop μ-loop
-add-i c = search needs
-
-loop-less : tie.Need-loop-less Inv-loop μ-loop
-loop-less c = search needs
 
 loop-again : tie.Need-loop-again Inv-loop μ-loop
 loop-again c = (search needs, any-more _ _ ∙ ap₂ _||_ (c .before .before .before .before .loop .inv .1) (sym (c .before .ties-with .ensures) ∙ c .if2 .left))
@@ -65,11 +53,11 @@ ties-spec =
     lacks-rank-requires
     returns
     loop-holds
-    mul-ties-with
-    element-copy-out-ties-with
+    (λ c. search needs)  -- mul-ties-with
+    (λ c. search needs)  -- element-copy-out-ties-with
     ties-with-requires
     returns-2
-    add-i
-    loop-less
+    (λ c. search needs)  -- add-i
+    (λ c. search needs)  -- loop-less
     loop-again
     returns-3)

@@ -7,9 +7,6 @@ use Rattle.meaning.proofs.base.Bits.{mask, mask-le}
 use Rattle.tables.proofs.rule.upper_of.Statement.{statement}
 use Rattle.tables.proofs.rule.upper_of.Tie as tie
 
-shl-result : tie.Need-shl-result
-shl-result c = search needs
-
 add-result : tie.Need-add-result
 add-result c = omega (arith, mask-le (c .args .w / 274877906944))
 
@@ -18,4 +15,7 @@ unfolding upper
 returns c = (rw mask, omega (arith, mask-le (c .args .w / 274877906944)))
 
 pub upper-of-spec : {M : Type 1} → statement M
-upper-of-spec = tie.close (tie.spec shl-result add-result returns)
+upper-of-spec = tie.close (tie.spec
+    (λ c. search needs)  -- shl-result
+    add-result
+    returns)

@@ -42,14 +42,8 @@ returns-2 c =
 check-insert-requires : tie.Need-check-insert-requires
 check-insert-requires c κs = let W = held-whole _ _ _ (c .before .before .before .before .before .before .pre) in (W .sound .cuts, W .sound .few)
 
-enum-known-k : tie.Need-enum-known-k
-enum-known-k c = search needs
-
 refused-requires-3 : tie.Need-refused-requires-3
 refused-requires-3 c κs = search needs
-
-enum-told : tie.Need-enum-told
-enum-told c = search needs
 
 insert-requires : tie.Need-insert-requires
 insert-requires c κs =
@@ -72,9 +66,6 @@ returns-3 c =
     (turned-takes _ _ _ _ (l .before .before .pre) _ _ _ (sym (d .check-insert .ensures _) ∙ ap checked (k .k .given .1))
     ∙ order-leaves _ _ (l .if1 .left) _ _ (e .if2 .left))
 
-same-length : tie.Need-same-length
-same-length c = search needs
-
 returns-4 : tie.Need-returns-4
 unfolding phaseOf
 returns-4 c =
@@ -93,11 +84,11 @@ take-insert-spec =
     refused-requires-2
     returns-2
     check-insert-requires
-    enum-known-k
+    (λ c. search needs)  -- enum-known-k
     refused-requires-3
-    enum-told
+    (λ c. search needs)  -- enum-told
     insert-requires
     known-requires
     returns-3
-    same-length
+    (λ c. search needs)  -- same-length
     returns-4)

@@ -42,14 +42,8 @@ returns-2 c =
 check-remove-requires : tie.Need-check-remove-requires
 check-remove-requires c κs = search needs
 
-enum-known-k : tie.Need-enum-known-k
-enum-known-k c = search needs
-
 refused-requires-3 : tie.Need-refused-requires-3
 refused-requires-3 c κs = search needs
-
-enum-told : tie.Need-enum-told
-enum-told c = search needs
 
 remove-requires : tie.Need-remove-requires
 remove-requires c κs =
@@ -72,9 +66,6 @@ returns-3 c =
     (turned-takes _ _ _ _ (l .before .before .pre) _ _ _ (sym (d .check-remove .ensures _ refl) ∙ ap checked (k .k .given .1))
     ∙ order-leaves _ _ (l .if1 .left) _ _ (e .if2 .left))
 
-same-length : tie.Need-same-length
-same-length c = search needs
-
 returns-4 : tie.Need-returns-4
 unfolding phaseOf
 returns-4 c =
@@ -93,11 +84,11 @@ take-remove-spec =
     refused-requires-2
     returns-2
     check-remove-requires
-    enum-known-k
+    (λ c. search needs)  -- enum-known-k
     refused-requires-3
-    enum-told
+    (λ c. search needs)  -- enum-told
     remove-requires
     known-requires
     returns-3
-    same-length
+    (λ c. search needs)  -- same-length
     returns-4)

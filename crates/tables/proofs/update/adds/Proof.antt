@@ -10,12 +10,6 @@ use Rattle.tables.proofs.update.adds.Tie as tie
 place-of-requires : tie.Need-place-of-requires
 place-of-requires c κs = search needs
 
-mul-if1 : tie.Need-mul-if1
-mul-if1 c = search needs
-
-element-copy-out-if1 : tie.Need-element-copy-out-if1
-element-copy-out-if1 c = search needs
-
 returns : tie.Need-returns
 unfolding isCut
 returns c =
@@ -31,4 +25,9 @@ returns-2 c =
     (rw (← b .place-of .ensures .0, ne-eqb (getD (now (g .cut)) (b .place-of .result .0) 0) (g .b) (c .if1 .left)), search needs)
 
 pub adds-spec : {M : Type 1} → statement M
-adds-spec = tie.close (tie.spec place-of-requires mul-if1 element-copy-out-if1 returns returns-2)
+adds-spec = tie.close (tie.spec
+    place-of-requires
+    (λ c. search needs)  -- mul-if1
+    (λ c. search needs)  -- element-copy-out-if1
+    returns
+    returns-2)

@@ -9,12 +9,6 @@ atom-at-requires c κs = search needs
 owner-index-requires : tie.Need-owner-index-requires
 owner-index-requires c κs = search needs
 
-mul-owner : tie.Need-mul-owner
-mul-owner c = search needs
-
-element-write-owner : tie.Need-element-write-owner
-element-write-owner c = search needs
-
 via-of-requires : tie.Need-via-of-requires
 via-of-requires c κs = search needs
 
@@ -24,26 +18,8 @@ via-of-requires-2 c κs = search needs
 move-atom-requires : tie.Need-move-atom-requires
 move-atom-requires c κs = search needs
 
-mul-write-entry : tie.Need-mul-write-entry
-mul-write-entry c = search needs
-
-element-copy-out-write-entry : tie.Need-element-copy-out-write-entry
-element-copy-out-write-entry c = search needs
-
-add-write-entry : tie.Need-add-write-entry
-add-write-entry c = search needs
-
-mul-write-entry-2 : tie.Need-mul-write-entry-2
-mul-write-entry-2 c = search needs
-
-element-copy-out-write-entry-2 : tie.Need-element-copy-out-write-entry-2
-element-copy-out-write-entry-2 c = search needs
-
 write-entry-requires : tie.Need-write-entry-requires
 write-entry-requires c κs = search needs
-
-same-length : tie.Need-same-length
-same-length c = search needs
 
 returns : tie.Need-returns
 returns c =
@@ -61,16 +37,16 @@ change-owner-spec =
     (tie.spec
     atom-at-requires
     owner-index-requires
-    mul-owner
-    element-write-owner
+    (λ c. search needs)  -- mul-owner
+    (λ c. search needs)  -- element-write-owner
     via-of-requires
     via-of-requires-2
     move-atom-requires
-    mul-write-entry
-    element-copy-out-write-entry
-    add-write-entry
-    mul-write-entry-2
-    element-copy-out-write-entry-2
+    (λ c. search needs)  -- mul-write-entry
+    (λ c. search needs)  -- element-copy-out-write-entry
+    (λ c. search needs)  -- add-write-entry
+    (λ c. search needs)  -- mul-write-entry-2
+    (λ c. search needs)  -- element-copy-out-write-entry-2
     write-entry-requires
-    same-length
+    (λ c. search needs)  -- same-length
     returns)

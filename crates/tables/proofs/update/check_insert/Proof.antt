@@ -17,12 +17,6 @@ returns : tie.Need-returns
 unfolding checked
 returns c = λ number. sym (number-high _ _ _ _ _ _ (c .if1 .taken))
 
-mul-if2 : tie.Need-mul-if2
-mul-if2 c = search needs
-
-element-copy-out-if2 : tie.Need-element-copy-out-if2
-element-copy-out-if2 c = search needs
-
 returns-2 : tie.Need-returns-2
 unfolding checked ruleAt
 returns-2 c = λ number. sym (number-live _ _ _ _ _ _ (c .before .before .if1 .left) (c .if2 .taken))
@@ -53,15 +47,6 @@ returns-5 c =
 
 pack-requires : tie.Need-pack-requires
 pack-requires c κs = search needs
-
-cast-source-of : tie.Need-cast-source-of
-cast-source-of c = search needs
-
-mul-source-of : tie.Need-mul-source-of
-mul-source-of c = search needs
-
-element-copy-out-source-of : tie.Need-element-copy-out-source-of
-element-copy-out-source-of c = search needs
 
 source-of-requires : tie.Need-source-of-requires
 source-of-requires c κs = search needs
@@ -101,9 +86,6 @@ returns-6 : tie.Need-returns-6
 unfolding checked
 returns-6 c = λ number. insert-ties (tried (c .before) number) (c .if6 .taken)
 
-cast-n : tie.Need-cast-n
-cast-n c = search needs
-
 lower-of-requires : tie.Need-lower-of-requires
 lower-of-requires c κs = search needs
 
@@ -115,12 +97,6 @@ upper-of-requires c κs = search needs
 
 adds-requires-2 : tie.Need-adds-requires-2
 adds-requires-2 c κs = search needs
-
-add-more : tie.Need-add-more
-add-more c = search needs
-
-add-if7 : tie.Need-add-if7
-add-if7 c = search needs
 
 returns-7 : tie.Need-returns-7
 unfolding checked
@@ -145,26 +121,26 @@ check-insert-spec =
     tie.close
     (tie.spec
     returns
-    mul-if2
-    element-copy-out-if2
+    (λ c. search needs)  -- mul-if2
+    (λ c. search needs)  -- element-copy-out-if2
     returns-2
     returns-3
     returns-4
     is-ragged-requires
     returns-5
     pack-requires
-    cast-source-of
-    mul-source-of
-    element-copy-out-source-of
+    (λ c. search needs)  -- cast-source-of
+    (λ c. search needs)  -- mul-source-of
+    (λ c. search needs)  -- element-copy-out-source-of
     source-of-requires
     ties-requires
     returns-6
-    cast-n
+    (λ c. search needs)  -- cast-n
     lower-of-requires
     adds-requires
     upper-of-requires
     adds-requires-2
-    add-more
-    add-if7
+    (λ c. search needs)  -- add-more
+    (λ c. search needs)  -- add-if7
     returns-7
     returns-8)

@@ -14,12 +14,6 @@ returns : tie.Need-returns
 unfolding checked
 returns c = λ m e. sym (remove-high m _ (c .if1 .taken))
 
-mul-if2 : tie.Need-mul-if2
-mul-if2 c = search needs
-
-element-copy-out-if2 : tie.Need-element-copy-out-if2
-element-copy-out-if2 c = search needs
-
 returns-2 : tie.Need-returns-2
 unfolding checked ruleAt
 returns-2 c = λ m e. sym (remove-free m _ (c .before .before .if1 .left) (ap (λ (l : List ℕ). getD l (c .before .before .before .args .r) 0) e ∙ c .if2 .taken))
@@ -29,4 +23,9 @@ unfolding checked ruleAt
 returns-3 c = λ m e. sym (remove-passes m _ (c .before .before .if1 .left) (λ z. c .if2 .left (sym (ap (λ (l : List ℕ). getD l (c .before .before .before .args .r) 0) e) ∙ z)))
 
 pub check-remove-spec : {M : Type 1} → statement M
-check-remove-spec = tie.close (tie.spec returns mul-if2 element-copy-out-if2 returns-2 returns-3)
+check-remove-spec = tie.close (tie.spec
+    returns
+    (λ c. search needs)  -- mul-if2
+    (λ c. search needs)  -- element-copy-out-if2
+    returns-2
+    returns-3)

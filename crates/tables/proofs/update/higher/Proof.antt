@@ -10,14 +10,8 @@ returns : tie.Need-returns
 unfolding raised
 returns c = rw (eq-eqb _ _ (c .if1 .taken))
 
-cast-i : tie.Need-cast-i
-cast-i c = search needs
-
 sub-i : tie.Need-sub-i
 sub-i c = omega (arith, c .before .pre (c .if1 .left) .0)
-
-mul-rank-of : tie.Need-mul-rank-of
-mul-rank-of c = search needs
 
 element-copy-out-rank-of : tie.Need-element-copy-out-rank-of
 element-copy-out-rank-of c = omega (arith, c .before .pre (c .if1 .left) .0, c .before .pre (c .if1 .left) .1)
@@ -42,9 +36,9 @@ higher-spec =
     tie.close
     (tie.spec
     returns
-    cast-i
+    (λ c. search needs)  -- cast-i
     sub-i
-    mul-rank-of
+    (λ c. search needs)  -- mul-rank-of
     element-copy-out-rank-of
     rank-of-requires
     returns-2

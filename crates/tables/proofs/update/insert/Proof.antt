@@ -137,12 +137,6 @@ at-places c = c .before .before .before .before .before .before .before .before 
 
 -- ---- the needs
 
-cast-l : tie.Need-cast-l
-cast-l c = search needs
-
-mul-source-of : tie.Need-mul-source-of
-mul-source-of c = search needs
-
 element-copy-out-source-of : tie.Need-element-copy-out-source-of
 element-copy-out-source-of c = fits (c .before .before) .link
 
@@ -157,9 +151,6 @@ lower-of-requires c κs = search needs
 
 upper-of-requires : tie.Need-upper-of-requires
 upper-of-requires c κs = search needs
-
-cast-make-boundary : tie.Need-cast-make-boundary
-cast-make-boundary c = search needs
 
 make-boundary-requires : tie.Need-make-boundary-requires
 make-boundary-requires c κs =
@@ -194,9 +185,6 @@ place-of-requires c κs = two-whole (c .before) .sound .cuts
 place-of-requires-2 : tie.Need-place-of-requires-2
 place-of-requires-2 c κs = two-whole (c .before .before .before) .sound .cuts
 
-cast-mine : tie.Need-cast-mine
-cast-mine c = search needs
-
 mul-mine : tie.Need-mul-mine
 mul-mine c = omega (arith, mine-fits (s (at-two (c .before))))
 
@@ -229,9 +217,6 @@ cast-t26 c =
     let p = at-places c in
     omega (arith, c .before .before .take-over .ensures .words .few, spans p .within, two-whole (at-two p) .sound .cuts .room)
 
-same-length : tie.Need-same-length
-same-length c = search needs
-
 returns : tie.Need-returns
 unfolding withRule
 returns c =
@@ -249,19 +234,19 @@ pub insert-spec : {M : Type 1} → statement M
 insert-spec =
     tie.close
     (tie.spec
-    cast-l
-    mul-source-of
+    (λ c. search needs)  -- cast-l
+    (λ c. search needs)  -- mul-source-of
     element-copy-out-source-of
     source-of-requires
     pack-requires
     lower-of-requires
     upper-of-requires
-    cast-make-boundary
+    (λ c. search needs)  -- cast-make-boundary
     make-boundary-requires
     make-boundary-requires-2
     place-of-requires
     place-of-requires-2
-    cast-mine
+    (λ c. search needs)  -- cast-mine
     mul-mine
     add-mine
     add-mine-2
@@ -271,5 +256,5 @@ insert-spec =
     element-write-rule
     cast-t38
     cast-t26
-    same-length
+    (λ c. search needs)  -- same-length
     returns)

@@ -8,15 +8,6 @@ use Rattle.meaning.proofs.base.Bits.{shifted}
 use Rattle.tables.proofs.update.is_ragged.Statement.{statement}
 use Rattle.tables.proofs.update.is_ragged.Tie as tie
 
-sub-result : tie.Need-sub-result
-sub-result c = search needs
-
-cast-result : tie.Need-cast-result
-cast-result c = search needs
-
-shl-result : tie.Need-shl-result
-shl-result c = search needs
-
 rem-result : tie.Need-rem-result
 rem-result c = rw (shifted 64 (32 - c .args .length) (omega arith)) (pow-pos (32 - c .args .length))
 
@@ -25,4 +16,9 @@ unfolding ragged
 returns c = rw (shifted 64 (32 - c .args .length) (omega arith))
 
 pub is-ragged-spec : {M : Type 1} → statement M
-is-ragged-spec = tie.close (tie.spec sub-result cast-result shl-result rem-result returns)
+is-ragged-spec = tie.close (tie.spec
+    (λ c. search needs)  -- sub-result
+    (λ c. search needs)  -- cast-result
+    (λ c. search needs)  -- shl-result
+    rem-result
+    returns)

@@ -10,26 +10,8 @@ returns : tie.Need-returns
 unfolding ownerFor
 returns c = rw (c .if1 .taken)
 
-mul-link-of : tie.Need-mul-link-of
-mul-link-of c = search needs
-
-element-copy-out-link-of : tie.Need-element-copy-out-link-of
-element-copy-out-link-of c = search needs
-
 link-of-requires : tie.Need-link-of-requires
 link-of-requires c κs = search needs
-
-mul-result : tie.Need-mul-result
-mul-result c = search needs
-
-add-result : tie.Need-add-result
-add-result c = search needs
-
-add-result-2 : tie.Need-add-result-2
-add-result-2 c = search needs
-
-cast-result : tie.Need-cast-result
-cast-result c = search needs
 
 returns-2 : tie.Need-returns-2
 unfolding ownerFor
@@ -42,11 +24,11 @@ owner-for-spec =
     tie.close
     (tie.spec
     returns
-    mul-link-of
-    element-copy-out-link-of
+    (λ c. search needs)  -- mul-link-of
+    (λ c. search needs)  -- element-copy-out-link-of
     link-of-requires
-    mul-result
-    add-result
-    add-result-2
-    cast-result
+    (λ c. search needs)  -- mul-result
+    (λ c. search needs)  -- add-result
+    (λ c. search needs)  -- add-result-2
+    (λ c. search needs)  -- cast-result
     returns-2)

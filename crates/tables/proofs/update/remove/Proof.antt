@@ -74,26 +74,14 @@ at-gather c = c .before .before .before .before .before .before .before .before
 
 -- ---- the needs
 
-mul-w : tie.Need-mul-w
-mul-w c = search needs
-
 element-copy-out-w : tie.Need-element-copy-out-w
 element-copy-out-w c = going (c .before) _ refl .slot
 
 link-of-requires : tie.Need-link-of-requires
 link-of-requires c κs = search needs
 
-mul-source-of : tie.Need-mul-source-of
-mul-source-of c = search needs
-
-element-copy-out-source-of : tie.Need-element-copy-out-source-of
-element-copy-out-source-of c = search needs
-
 source-of-requires : tie.Need-source-of-requires
 source-of-requires c κs = search needs
-
-cast-n : tie.Need-cast-n
-cast-n c = search needs
 
 lower-of-requires : tie.Need-lower-of-requires
 lower-of-requires c κs = search needs
@@ -107,20 +95,11 @@ upper-of-requires c κs = search needs
 place-of-requires-2 : tie.Need-place-of-requires-2
 place-of-requires-2 c κs = search needs
 
-mul-rule : tie.Need-mul-rule
-mul-rule c = search needs
-
 element-write-rule : tie.Need-element-write-rule
 element-write-rule c = joined (at-node c) .slot
 
 gather-requires : tie.Need-gather-requires
 gather-requires c κs = search needs
-
-cast-gone : tie.Need-cast-gone
-cast-gone c = search needs
-
-mul-gone : tie.Need-mul-gone
-mul-gone c = search needs
 
 add-gone : tie.Need-add-gone
 add-gone c = let n = at-node (at-places c) in omega (arith, joined n .slot, n .before .before .link-of .ensures .1)
@@ -140,9 +119,6 @@ cast-t27 c =
     let p = at-places (at-gather c) in
     omega (arith, c .before .before .hand-on .ensures .words .few, spans p .within, s (at-node p) .pre .0 .sound .cuts .room)
 
-same-length : tie.Need-same-length
-same-length c = search needs
-
 returns : tie.Need-returns
 unfolding leaves withRule ruleAt
 returns c =
@@ -159,25 +135,25 @@ pub remove-spec : {M : Type 1} → statement M
 remove-spec =
     tie.close
     (tie.spec
-    mul-w
+    (λ c. search needs)  -- mul-w
     element-copy-out-w
     link-of-requires
-    mul-source-of
-    element-copy-out-source-of
+    (λ c. search needs)  -- mul-source-of
+    (λ c. search needs)  -- element-copy-out-source-of
     source-of-requires
-    cast-n
+    (λ c. search needs)  -- cast-n
     lower-of-requires
     place-of-requires
     upper-of-requires
     place-of-requires-2
-    mul-rule
+    (λ c. search needs)  -- mul-rule
     element-write-rule
     gather-requires
-    cast-gone
-    mul-gone
+    (λ c. search needs)  -- cast-gone
+    (λ c. search needs)  -- mul-gone
     add-gone
     add-gone-2
     hand-on-requires
     cast-t27
-    same-length
+    (λ c. search needs)  -- same-length
     returns)

@@ -20,12 +20,6 @@ returns c = record {
 change-owner-requires : tie.Need-change-owner-requires
 change-owner-requires c κs = search needs
 
-add-result : tie.Need-add-result
-add-result c = search needs
-
-same-length : tie.Need-same-length
-same-length c = search needs
-
 returns-2 : tie.Need-returns-2
 returns-2 c =
     let n = c .before .before .before .before .before .before .if1 .left in
@@ -42,4 +36,9 @@ returns-2 c =
     }
 
 pub settle-spec : {M : Type 1} → statement M
-settle-spec = tie.close (tie.spec returns change-owner-requires add-result same-length returns-2)
+settle-spec = tie.close (tie.spec
+    returns
+    change-owner-requires
+    (λ c. search needs)  -- add-result
+    (λ c. search needs)  -- same-length
+    returns-2)

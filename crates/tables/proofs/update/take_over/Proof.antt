@@ -35,12 +35,6 @@ owner-index-requires c κs =
     let r = c .before .before .before .before .before .pre .0 in
     (rw (c .atom-at .ensures) (small r (below (c .before))), r .node)
 
-mul-old : tie.Need-mul-old Inv-loop μ-loop
-mul-old c = search needs
-
-element-copy-out-old : tie.Need-element-copy-out-old Inv-loop μ-loop
-element-copy-out-old c = search needs
-
 higher-requires : tie.Need-higher-requires Inv-loop μ-loop
 higher-requires c κs =
     let a = c .before .before in
@@ -56,12 +50,6 @@ settle-requires c κs =
     let i = c .before .before .before .before .before .before .before in
     let l = i .before .loop .inv in
     may-settle (i .before .before .before .before .pre .0) (l .0) (below i) (l .3) (l .2)
-
-add-p : tie.Need-add-p Inv-loop μ-loop
-add-p c = search needs
-
-loop-less : tie.Need-loop-less Inv-loop μ-loop
-loop-less c = search needs
 
 loop-again : tie.Need-loop-again Inv-loop μ-loop
 loop-again c =
@@ -95,12 +83,12 @@ take-over-spec =
     loop-holds
     atom-at-requires
     owner-index-requires
-    mul-old
-    element-copy-out-old
+    (λ c. search needs)  -- mul-old
+    (λ c. search needs)  -- element-copy-out-old
     higher-requires
     settle-requires
-    add-p
-    loop-less
+    (λ c. search needs)  -- add-p
+    (λ c. search needs)  -- loop-less
     loop-again
     same-length
     returns)

@@ -9,12 +9,12 @@ returns : tie.Need-returns
 unfolding via
 returns c = (rw (eq-eqb _ _ (c .if1 .taken)), search needs)
 
-cast-result : tie.Need-cast-result
-cast-result c = search needs
-
 returns-2 : tie.Need-returns-2
 unfolding via
 returns-2 c = (rw (ne-eqb _ _ (c .if1 .left)), search needs)
 
 pub via-of-spec : {M : Type 1} → statement M
-via-of-spec = tie.close (tie.spec returns cast-result returns-2)
+via-of-spec = tie.close (tie.spec
+    returns
+    (λ c. search needs)  -- cast-result
+    returns-2)
