@@ -2,10 +2,11 @@
 // No contract can say what is read or printed; what each line holds is the contract of the crate `print`.
 use meaning::Answer;
 use meaning::Hall;
+ghost use mathlib.Core.Path.{_≡_};
 ghost use Prim.Native.Nat.{_+_, _*_, _≤_};
 ghost use lib.ListN.{length};
 ghost use Rattle.meaning.specs.Box.{stateOf, Held};
-ghost use Rattle.hallcheck.specs.Room.{Room, Listed, EntriesOf};
+ghost use Rattle.hallcheck.specs.Room.{Room, Listed, entriesOf};
 
 // Whether standard input has a byte more.
 fn is_more() -> bool {
@@ -59,7 +60,7 @@ fn print_changes(out: &mut [u8], from: usize, list: &[u64], count: usize) -> usi
 
 // How many entries of the change list an answer counts.
 fn entries_of(answer: Answer) -> usize
-    ensures { λ r. ⌜ EntriesOf answer r ⌝ }
+    ensures { λ r. ⌜ r ≡ entriesOf answer ⌝ }
 {
     match answer {
         Answer::Changed(count) => count as usize,

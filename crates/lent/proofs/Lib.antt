@@ -15,5 +15,7 @@ pub mod Questions
 pub mod Sets
 -- what a step leaves of the box, by its parts
 pub mod Steps
+-- what a record is that no arm of a `match` names before its last
+pub mod Others
 -- no second outcome meets a public contract
 pub mod Once

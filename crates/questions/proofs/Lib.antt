@@ -3,5 +3,3 @@
 mod Leads
 -- sets of atoms carried along links, word by word and row by row
 mod Standing
--- what a record is that no arm of a `match` names before its last
-mod Others

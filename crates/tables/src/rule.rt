@@ -6,7 +6,7 @@ ghost use mathlib.Core.List.{List};
 ghost use Prim.Native.Nat.{ℕ, _+_, _^_, _<_, _≤_};
 ghost use lib.ListN.{getD};
 ghost use Rattle.meaning.specs.Search.{anyBelow};
-ghost use Rattle.meaning.specs.Rule.{ruleWord, live, linkOf, lengthOf, rank as rankOf, lower, upper, covers, overlap};
+ghost use Rattle.meaning.specs.Rule.{ruleWord, live, linkOf, rank as rankOf, lower, upper, covers, overlap};
 ghost use Rattle.meaning.specs.Winner.{better};
 ghost use Rattle.tables.specs.Gathered.{bestIn, Gathering, Gathers, maskOf, Marks, standing, tying};
 
@@ -18,20 +18,6 @@ pub fn pack(r: Rule) -> u64
     let free = 32 - r.length as u64;
     let head = 1152921504606846976 + r.priority as u64 * 17592186044416 + free * 274877906944;
     head + r.link as u64 * 4294967296 + r.prefix as u64
-}
-
-// The parts of a rule's word: the inverse of `pack`, by the laws link-of, lower-of, length-of and rank-of of meaning's proofs/Words.
-// Kept to show this: the box asks a word for one part at a time.
-pub fn unpack(w: u64) -> Rule
-    ensures { λ r. ⌜ (r .link ≡ linkOf w) × (r .prefix ≡ lower w) × (r .length ≡ lengthOf w) × (r .priority ≡ rankOf w) ⌝ }
-{
-    let free = (w / 274877906944 % 64) as u8;
-    Rule {
-        link: (w / 4294967296 % 64) as u8,
-        prefix: (w % 4294967296) as u32,
-        length: if 32 < free { 0 } else { 32 - free },
-        priority: (w / 17592186044416 % 65536) as u16,
-    }
 }
 
 pub fn link_of(w: u64) -> usize

@@ -2,7 +2,7 @@
 use mathlib.Core.Path.{sym, _∙_}
 use borrow.Author.Needs.{needs}
 use Rattle.lent.proofs.Steps.{reply-leaves}
-use Rattle.hall.proofs.Others.{question, told-leaves}
+use Rattle.lent.proofs.Others.{question, told-leaves}
 use Rattle.hall.proofs.step.act.Statement.{statement}
 use Rattle.hall.proofs.step.act.Tie as tie
 

@@ -3,7 +3,7 @@ use mathlib.Core.Path.{sym, ap, _∙_}
 use borrow.Author.Needs.{needs}
 use Rattle.meaning.specs.Records.{phaseOf}
 use Rattle.lent.specs.Steps.{takes}
-use Rattle.hall.proofs.Others.{not-before}
+use Rattle.lent.proofs.Others.{not-before}
 use Rattle.hall.proofs.step.set_up.Statement.{statement}
 use Rattle.hall.proofs.step.set_up.Tie as tie
 

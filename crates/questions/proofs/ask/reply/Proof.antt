@@ -11,7 +11,7 @@ use Rattle.meaning.specs.Answers.{said}
 use Rattle.meaning.specs.Step.{when, refusal, answers, replyTo}
 use Rattle.lent.proofs.Labelled.{held-whole, held-words}
 use Rattle.meaning.proofs.records.Replies.{reply-none, reply-early, reply-turned, reply-given}
-use Rattle.questions.proofs.Others.{no-question}
+use Rattle.lent.proofs.Others.{no-question}
 use Rattle.questions.proofs.ask.reply.Statement.{statement}
 use Rattle.questions.proofs.ask.reply.Tie as tie
 

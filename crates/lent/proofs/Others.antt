@@ -1,7 +1,7 @@
 -- What a record may be that is none of those which a `match` names before its last arm. Assumes nothing.
 use mathlib.Core.Path.{_≡_, refl, sym, ap}
 use mathlib.Core.List.{List}
-use mathlib.Core.Bool.{true}
+use mathlib.Core.Bool.{true, false}
 use mathlib.Core.Logic.{_⊎_, inl, inr}
 use Prim.Native.Nat.{ℕ, _≤_}
 use native.Mathlib.Omega.{arith}
@@ -66,6 +66,29 @@ question r k = let n = around (kindOf r) k in go r (n .0) (n .1)
     go (fate _ _) a b p = refl
     go (reach _ _) a b p = refl
     go (tally _) a b p = refl
+
+to-four : (t : ℕ) → (t ≡ 0) ⊎ ((t ≡ 1) ⊎ ((t ≡ 2) ⊎ ((t ≡ 3) ⊎ (t ≡ 4)))) → t ≤ 4
+to-four t (inl e) = omega (arith, e)
+to-four t (inr (inl e)) = omega (arith, e)
+to-four t (inr (inr (inl e))) = omega (arith, e)
+to-four t (inr (inr (inr (inl e)))) = omega (arith, e)
+to-four t (inr (inr (inr (inr e)))) = omega (arith, e)
+
+-- no loop, fate, reach or tally: it is no question
+pub no-question : (r : Record) → (kindOf r ≡ 0) ⊎ ((kindOf r ≡ 1) ⊎ ((kindOf r ≡ 2) ⊎ ((kindOf r ≡ 3) ⊎ (kindOf r ≡ 4)))) → isQuestion r ≡ false
+unfolding isQuestion
+no-question r k = go r (to-four (kindOf r) k)
+  where
+    go : (r : Record) → kindOf r ≤ 4 → isQuestion r ≡ false
+    go (hall _) h = refl
+    go (link _ _ _) h = refl
+    go close h = refl
+    go (insert _ _ _ _ _) h = refl
+    go (remove _) h = refl
+    go loop h = absurd (omega (arith, h))
+    go (fate _ _) h = absurd (omega (arith, h))
+    go (reach _ _) h = absurd (omega (arith, h))
+    go (tally _) h = absurd (omega (arith, h))
 
 -- what a record leaves, by what it was told to be
 pub told-leaves : (m : State) (list : List ℕ) (n : ℕ) (r told : Record) → r ≡ told → leftFor m list (Got told n) ≡ leftFor m list (Got r n)
