@@ -2,8 +2,9 @@
 //
 //     compare CASES KEEP SEED COUNT WORDS..
 //
-// CASES is the folder of cases (NAME.hex, with NAME.out where the output was written by hand). KEEP is the folder for streams that fail,
+// CASES is the folder of cases (NAME.hex, and NAME.out, the output written by hand). KEEP is the folder for streams that fail,
 // SEED and COUNT say which streams are made, and WORDS are the program's command. The last line is: N passed, M failed.
+// What would compare nothing fails: no case, half a case, a COUNT of 0.
 
 #[path = "../model/model.rs"]
 mod model;
@@ -210,23 +211,49 @@ impl Count {
             println!("{name}: {}", first_difference(program, model));
         }
     }
+
+    fn fail(&mut self, line: &str) {
+        self.failed += 1;
+        println!("{line}");
+    }
+}
+
+// The names of the cases: of every file in the folder, so that half a case is seen whichever half is missing.
+fn case_names(folder: &Path) -> Vec<String> {
+    let Ok(entries) = fs::read_dir(folder) else {
+        return Vec::new();
+    };
+    let mut names: Vec<String> = entries
+        .map(|entry| entry.unwrap().path().file_stem().unwrap().to_string_lossy().into_owned())
+        .collect();
+    names.sort();
+    names.dedup();
+    names
 }
 
 fn run_cases(program: &Program, folder: &Path, count: &mut Count) {
-    let mut paths: Vec<PathBuf> = fs::read_dir(folder).unwrap().map(|entry| entry.unwrap().path()).collect();
-    paths.sort();
-    for path in paths.iter().filter(|path| path.extension().is_some_and(|end| end == "hex")) {
-        let name = path.file_stem().unwrap().to_string_lossy();
-        let stream = read_hex(path);
-        let model = model::output(&stream);
-        count.add(&format!("case {name}"), &program.output(&stream, 0), &model);
-        if let Ok(written) = fs::read_to_string(path.with_extension("out")) {
-            count.add(&format!("case {name}, the model against {name}.out"), model.as_bytes(), &written);
+    let names = case_names(folder);
+    if names.is_empty() {
+        count.fail(&format!("there is no case in {}", folder.display()));
+    }
+    for name in names {
+        let (path, written) = (folder.join(format!("{name}.hex")), folder.join(format!("{name}.out")));
+        if let Some(missing) = [&path, &written].into_iter().find(|part| !part.is_file()) {
+            count.fail(&format!("case {name}: {} is missing", missing.display()));
+            continue;
         }
+        let stream = read_hex(&path);
+        let model = model::output(&stream);
+        let written = fs::read_to_string(&written).unwrap_or_else(|error| panic!("{}: {error}", written.display()));
+        count.add(&format!("case {name}"), &program.output(&stream, 0), &model);
+        count.add(&format!("case {name}, the model against {name}.out"), model.as_bytes(), &written);
     }
 }
 
 fn run_streams(program: &Program, first: u64, streams: u64, count: &mut Count) {
+    if streams == 0 {
+        count.fail("a COUNT of 0: no stream is compared");
+    }
     let next = AtomicU64::new(0);
     let failures: Mutex<Vec<u64>> = Mutex::new(Vec::new());
     let workers = thread::available_parallelism().map_or(1, |n| n.get());
