@@ -9,17 +9,11 @@ use Rattle.meaning.proofs.records.Said.{read-once}
 use Rattle.records.specs.declared.reader.Reader.{Reader}
 use Rattle.records.specs.Readers.{Next, next, nextOf}
 
--- what `next_record` returns and leaves: what was read, and the reader at exit with its stream and its place
-pub record Outcome : Type 0 where
-  pub read : Read
-  pub reader : Reader
-
--- `next_record` on a reader r
-pub next-record-once : (r : Reader) (x y : Outcome) → next (x .read) (x .reader) ≡ nextOf r → next (y .read) (y .reader) ≡ nextOf r → x ≡ y
-next-record-once r x y p q =
+-- `next_record` on a reader r: what was read, and the reader at exit with its stream and its place
+pub next-record-once : (r : Reader) (x y : Read) (left left′ : Reader) → next x left ≡ nextOf r → next y left′ ≡ nextOf r → (x ≡ y) × (left ≡ left′)
+next-record-once r x y left left′ p q =
     let e = p ∙ sym q in
-    let s = read-once (x .read) (y .read) (ap (λ (n : Next). n .read) e) in
-    λ i. record { read = s i; reader = ap (λ (n : Next). n .reader) e i }
+    (read-once x y (ap (λ (n : Next). n .read) e), ap (λ (n : Next). n .reader) e)
 
 -- `reader_over` on a stream, by its reference, and a place
 pub reader-over-once : (bytes : RefT (List ℕ)) (at : ℕ) (x y : Reader) → x ≡ record { bytes = bytes; at = at } → y ≡ record { bytes = bytes; at = at } → x ≡ y
