@@ -23,6 +23,7 @@ use Rattle.meaning.proofs.base.Search.{any-true, any-some, and-both}
 use Rattle.lent.specs.Owners.{ownerIn, via, viaLink, nextIn, endIn, Whole}
 use Rattle.lent.proofs.Labelled.{starts, won, via-won, source-small, ends-in}
 use Rattle.lent.specs.Sets.{sourceIn, Taken, Carries, Reached, Within, leavesBy, goesOn, lostAt}
+use Rattle.meaning.proofs.base.Order.{clash}
 
 -- ---- labels and moves
 
@@ -40,7 +41,7 @@ unfolding via viaLink
 some-via e l q = go (eqb e 0) refl q
   where
     go : (t : Bool) → eqb e 0 ≡ t → pick t none (some (e / 512 % 64)) ≡ some l → (e ≡ 0 → ⊥) × (pick t 64 (e / 512 % 64) ≡ l)
-    go true r f = let z : _≡_ {A = ℕ} 0 1 = cc in absurd (omega arith)
+    go true r f = clash cc
     go false r f = (eqb-false e 0 r, cc)
 
 -- THE LAW: in a box in order the labels say which link a packet takes
@@ -75,8 +76,7 @@ carries-of m label owner W = record {
         named k u l hk h (f .0) (f .1)
     go k u l hk (no h) e =
         let f : none ≡ some l = rw (le-ltb u 16 (omega arith)) at e in
-        let z : _≡_ {A = ℕ} 0 1 = cc in
-        absurd (omega arith)
+        clash cc
 
 -- ---- the fates by these sets
 
@@ -168,7 +168,7 @@ module _ {link label owner : List ℕ} {links nodes : ℕ} (C : Carries link lab
             absurd (differ x (r .0) s (ltb-true (end (r .0)) 512 (b .0)))
           where
             differ : (next w ≡ none) ⊎ ((l : ℕ) × (next w ≡ some l) × (512 ≤ end l)) → (l : ℕ) → next w ≡ some l → end l < 512 → ⊥
-            differ (inl n) l s h = let z : _≡_ {A = ℕ} 0 1 = cc in omega arith
+            differ (inl n) l s h = clash cc
             differ (inr (j, n, g)) l s h = let z : j ≡ l = cc in omega (arith, ap end z)
 
         there : (g : Fate) → IsFate next end v g → isLost g ≡ true → anyBelow 16 (lostAt link label links stand k) ≡ true

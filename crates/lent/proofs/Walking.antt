@@ -15,7 +15,7 @@ use Rattle.meaning.specs.Search.{anyBelow}
 use Rattle.meaning.specs.Walk.{Place, at, out, lost, move, after, standsAt, onCircle, comesTo}
 use Rattle.meaning.proofs.walk.Moves.{goes-to}
 use Rattle.meaning.proofs.walk.Walks.{Reaches, after-suc, going-le}
-use Rattle.meaning.proofs.base.Order.{le-or-lt}
+use Rattle.meaning.proofs.base.Order.{clash, le-or-lt}
 use Rattle.meaning.proofs.base.Search.{any-true, any-some, any-off}
 use Rattle.meaning.proofs.walk.Tests.{stands-at, at-stands}
 use Rattle.meaning.proofs.base.Bits.{zero-bits, or-bits, and-bits, ones-bits, set-bit, shifted}
@@ -37,8 +37,7 @@ module _ (owner : List ℕ) (k v : ℕ) (h : v < 16) where
     pub no-owner : ownerIn owner k v ≡ 0 → (w : ℕ) → move (nextIn owner k) end (at v) ≡ at w → ⊥
     no-owner e w q =
         let g = goes-to (nextIn owner k) end v w .0 q in
-        let z : _≡_ {A = ℕ} 0 1 = cc (next-none e, g .1) in
-        omega arith
+        clash (cc (next-none e, g .1))
 
     pub to-node : (ownerIn owner k v ≡ 0 → ⊥) → end (ownerIn owner k v / 512 % 64) < 256 → move (nextIn owner k) end (at v) ≡ at (end (ownerIn owner k v / 512 % 64))
     to-node n l = goes-to (nextIn owner k) end v _ .1 (_, next-some n, refl, l)

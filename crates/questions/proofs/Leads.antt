@@ -20,7 +20,7 @@ use Rattle.meaning.specs.Hall.{State}
 use Rattle.meaning.specs.Labels.{bit, on}
 use Rattle.meaning.specs.Questions.{byAddress}
 use Rattle.meaning.specs.Walk.{at, leave, move, after, standsAt, onCircle, comesTo}
-use Rattle.meaning.proofs.base.Order.{le-or-lt}
+use Rattle.meaning.proofs.base.Order.{clash, le-or-lt}
 use Rattle.meaning.proofs.base.Bits.{bit-lt, zero-bits, or-none, or-bits, not-bits}
 use Rattle.meaning.proofs.base.Search.{any-true, any-some}
 use Rattle.meaning.proofs.walk.Tests.{stands-at, at-stands}
@@ -200,7 +200,7 @@ together m label owner W = record { agrees = W .agrees; starts = starts m label 
 -- no move leads on from a node that is none of 16
 past : (owner : List ℕ) (end : ℕ → ℕ) (k v u : ℕ) → 16 ≤ v → move (nextIn owner k) end (at v) ≡ at u → ⊥
 unfolding move leave nextIn
-past owner end k v u h e = let z : _≡_ {A = ℕ} 0 1 = cc (le-ltb v 16 h, e) in omega arith
+past owner end k v u h e = clash (cc (le-ltb v 16 h, e))
 
 module _ (link label lead owner : List ℕ) (L : Leads link label 64 lead) (T : Together link label owner) (k : ℕ) (hk : k < 512) where
   -- one move goes by a link that has the atom, so it is a lead

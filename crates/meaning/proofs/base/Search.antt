@@ -13,7 +13,7 @@ use lib.ListN.{length, getD, length-replicate, getD-replicate}
 use lib.Seq.{ext-getD}
 use Rattle.meaning.specs.Search.{anyBelow, tabulate, pick, countBelow, orElse, lowestBelow}
 use Rattle.meaning.specs.Hall.{zeroes}
-use Rattle.meaning.proofs.base.Order.{Order, less, same, more, order}
+use Rattle.meaning.proofs.base.Order.{clash, Order, less, same, more, order}
 
 pub tab-length : (n i : ℕ) (f : ℕ → ℕ) → length (tabulate n i f) ≡ n
 unfolding tabulate
@@ -186,7 +186,7 @@ module _ (P : ℕ → Bool) (n : ℕ) where
   lowest-is a = (there _ (sought P n), back _ (sought P n))
     where
       there : (o : Option ℕ) → Sought P n o → o ≡ some a → Lowest n (λ i. P i ≡ true) a
-      there o (missing f) e = let z : _≡_ {A = ℕ} 0 1 = cc in absurd (omega arith)
+      there o (missing f) e = clash cc
       there o (found b x) e = let q : b ≡ a = cc in rw q at x
 
       back : (o : Option ℕ) → Sought P n o → Lowest n (λ i. P i ≡ true) a → o ≡ some a
@@ -198,7 +198,7 @@ module _ (P : ℕ → Bool) (n : ℕ) where
     where
       there : (o : Option ℕ) → Sought P n o → o ≡ none → (i : ℕ) → i < n → P i ≡ true → ⊥
       there o (missing f) e = f
-      there o (found b x) e = let z : _≡_ {A = ℕ} 0 1 = cc in absurd (omega arith)
+      there o (found b x) e = clash cc
 
       back : (o : Option ℕ) → Sought P n o → ((i : ℕ) → i < n → P i ≡ true → ⊥) → o ≡ none
       back o (missing f) g = refl

@@ -22,7 +22,7 @@ use Rattle.meaning.specs.Atoms.{withCut}
 use Rattle.meaning.specs.Questions.{byAddress}
 use Rattle.meaning.specs.Records.{recordOf, readOf, phaseOf, isQuestion}
 use Rattle.meaning.specs.Step.{Done, refusal, withRule, inserted, leaves, turnedBy, only, answers, accepted, taken, stepFor, stepWith, stepOf}
-use Rattle.meaning.proofs.base.Order.{le-or-lt}
+use Rattle.meaning.proofs.base.Order.{clash, le-or-lt}
 use Rattle.meaning.proofs.records.Checks.{when-none}
 use Rattle.meaning.proofs.records.Steps.{Stepped, short, ended, unread, turned, took, stepped}
 use Rattle.meaning.proofs.records.Begins.{Begins, nothing, unread as without, whole, begins}
@@ -35,15 +35,15 @@ use Rattle.meaning.proofs.records.Kinds.{by-question}
 -- what holds of the inserts and the remove of rule i holds of every record that names rule i
 pub by-update : (P : Record → Type 0) (i : ℕ) → ((l p n t : ℕ) → P (insert i l p n t)) → P (remove i) → (r : Record) → ruleOf r ≡ some i → P r
 unfolding ruleOf
-by-update P i f g (hall n) e = let z : _≡_ {A = ℕ} 0 1 = cc in absurd (omega arith)
-by-update P i f g (link s c d) e = let z : _≡_ {A = ℕ} 0 1 = cc in absurd (omega arith)
-by-update P i f g close e = let z : _≡_ {A = ℕ} 0 1 = cc in absurd (omega arith)
+by-update P i f g (hall n) e = clash cc
+by-update P i f g (link s c d) e = clash cc
+by-update P i f g close e = clash cc
 by-update P i f g (insert r l p n t) e = let q : r ≡ i = cc in rw q (f l p n t)
 by-update P i f g (remove r) e = let q : r ≡ i = cc in rw q g
-by-update P i f g loop e = let z : _≡_ {A = ℕ} 0 1 = cc in absurd (omega arith)
-by-update P i f g (fate v a) e = let z : _≡_ {A = ℕ} 0 1 = cc in absurd (omega arith)
-by-update P i f g (reach v w) e = let z : _≡_ {A = ℕ} 0 1 = cc in absurd (omega arith)
-by-update P i f g (tally v) e = let z : _≡_ {A = ℕ} 0 1 = cc in absurd (omega arith)
+by-update P i f g loop e = clash cc
+by-update P i f g (fate v a) e = clash cc
+by-update P i f g (reach v w) e = clash cc
+by-update P i f g (tally v) e = clash cc
 
 -- ---- two steps side by side
 
@@ -92,8 +92,8 @@ reads-nothing s e = go (readOf s) (begins s) e
   where
     go : (x : Read) → Begins s x → x ≡ Nothing → length s ≡ 0
     go x (nothing h) e = h
-    go x (without k h) e = let z : _≡_ {A = ℕ} 0 1 = cc in absurd (omega arith)
-    go x (whole h) e = let z : _≡_ {A = ℕ} 0 1 = cc in absurd (omega arith)
+    go x (without k h) e = clash cc
+    go x (whole h) e = clash cc
 
 -- THE LAW: the answer is "end" exactly when the list is long enough and no byte is left
 pub end-is : (m : State) (room : ℕ) (s : List ℕ) → (stepOf m room s .answer ≡ End) ↔ ((5 * 512 ≤ room) × (length s ≡ 0))
@@ -101,10 +101,10 @@ unfolding stepOf stepWith stepFor readOf only accepted
 end-is m room s = (λ e. go _ (stepped _ m room s) refl e, λ h. rw (le-ltb room 2560 (h .0), eq-eqb (length s) 0 (h .1)))
   where
     go : (d : Done) → Stepped (byAddress m) m room s d → stepWith (byAddress m) m room (readOf s) ≡ d → d .answer ≡ End → (5 * 512 ≤ room) × (length s ≡ 0)
-    go d (short h) q e = let z : _≡_ {A = ℕ} 0 1 = cc in absurd (omega arith)
+    go d (short h) q e = clash cc
     go d (ended h r) q e = (h, reads-nothing s r)
-    go d (unread k h r o) q e = let z : _≡_ {A = ℕ} 0 1 = cc in absurd (omega arith)
-    go d (turned r n k h g pos f b) q e = let z : _≡_ {A = ℕ} 0 1 = cc in absurd (omega arith)
+    go d (unread k h r o) q e = clash cc
+    go d (turned r n k h g pos f b) q e = clash cc
     go d (took r n h g pos f) q e = let none : n ≡ 0 = sym (ap (λ (d : Done). d .passed) q) ∙ stays m room s .1 (rw (q, e) at-end) in absurd (omega arith)
 
 -- ---- an accepted record
@@ -124,7 +124,7 @@ module _ (m : State) (room : ℕ) (s : List ℕ) where
     where
       unmoved : (k : ℕ) (a : Answer) → Unmoved a → refusedBy a ≡ none → (a ≡ End → ⊥) → Took m s (only m k a)
       unmoved k a no-byte e f = absurd (f refl)
-      unmoved k a (refused j) e f = let z : _≡_ {A = ℕ} 0 1 = cc in absurd (omega arith)
+      unmoved k a (refused j) e f = clash cc
 
       passed : (k : ℕ) → turnedBy m (recordOf s) ≡ none → refusedBy (accepted (byAddress m) m k (recordOf s) .answer) ≡ none
           → (accepted (byAddress m) m k (recordOf s) .answer ≡ End → ⊥) → Took m s (accepted (byAddress m) m k (recordOf s))
@@ -155,7 +155,7 @@ module _ (m : State) (room : ℕ) (s : List ℕ) (r : Record) (A : Asks m room s
 
 module _ (m : State) (room : ℕ) (s : List ℕ) (i : ℕ) (A : Accepts m room s i) where
   pub took-it : Took m s (stepOf m room s)
-  took-it = accepts m room s (ap refusedBy (A .ok) ∙ (unfold refusedBy in refl)) (λ e. let z : _≡_ {A = ℕ} 0 1 = cc (A .ok) in omega arith)
+  took-it = accepts m room s (ap refusedBy (A .ok) ∙ (unfold refusedBy in refl)) (λ e. clash (cc (A .ok)))
 
   pub left-is : then m room s ≡ leaves m (recordOf s)
   unfolding accepted

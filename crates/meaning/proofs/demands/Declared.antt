@@ -25,12 +25,13 @@ use Rattle.meaning.proofs.records.Checks.{when-none, ClearLink, clear-l
 use Rattle.meaning.proofs.sound.Kept.{sound}
 use Rattle.meaning.proofs.demands.Demands.{refusedBy, then, Takes, HasNodes, HasLink, HasClose}
 use Rattle.meaning.proofs.demands.Accepted.{Unmoved, both-step, Took, accepts}
+use Rattle.meaning.proofs.base.Order.{clash}
 
 -- ---- what a step declares
 
 module _ (m : State) (room : ℕ) (s : List ℕ) (r : Record) (T : Takes m room s r) where
   took : Took m s (stepOf m room s)
-  took = accepts m room s (ap refusedBy (T .ok) ∙ (unfold refusedBy in refl)) (λ e. let z : _≡_ {A = ℕ} 0 1 = cc (T .ok) in omega arith)
+  took = accepts m room s (ap refusedBy (T .ok) ∙ (unfold refusedBy in refl)) (λ e. clash (cc (T .ok)))
 
   left-is : then m room s ≡ leaves m r
   unfolding accepted

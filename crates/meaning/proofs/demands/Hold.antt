@@ -40,6 +40,7 @@ use Rattle.meaning.proofs.demands.InForce.{in-force}
 use Rattle.meaning.proofs.demands.Twins.{twin-rules, twin-links, fates-same, same-asked}
 use Rattle.meaning.proofs.demands.ChangedAddresses.{changes-listed, twins-after, same-listed}
 use Rattle.meaning.proofs.demands.EitherOrder.{swapped-twins, swapped-cutting, swapped-later}
+use Rattle.meaning.proofs.base.Order.{clash}
 
 -- ---- demand 1
 
@@ -68,7 +69,7 @@ module _ (m : State) (c : Came m) where
     where
       go : (t : Bool) → ltb (winner m v a) 256 ≡ t → pick t (some (linkOf (ruleAt m (winner m v a)))) none ≡ some l → Names m v a l
       go true h e = (winner m v a, winner-is m v a c (winner m v a) (ltb-true _ _ h) .0 refl, cc)
-      go false h e = let z : _≡_ {A = ℕ} 0 1 = cc in absurd (omega arith)
+      go false h e = clash cc
 
       back : Names m v a l → pick (ltb (winner m v a) 256) (some (linkOf (ruleAt m (winner m v a)))) none ≡ some l
       back (w, o, e) = let q = winner-is m v a c w (o .serves .number) .1 o in rw (q, lt-ltb w 256 (o .serves .number), e)

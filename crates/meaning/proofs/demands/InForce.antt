@@ -26,6 +26,7 @@ use Rattle.meaning.proofs.sound.Sound.{fresh-sound}
 use Rattle.meaning.proofs.document.Winners.{Stored, insert-stores, remove-frees}
 use Rattle.meaning.proofs.demands.Demands.{ruleOf, then, Accepts, InForce}
 use Rattle.meaning.proofs.demands.Accepted.{Unmoved, no-byte, refused, both-step, by-update, took-it, left-is}
+use Rattle.meaning.proofs.base.Order.{clash}
 
 -- ---- a step, seen from rule i
 
@@ -38,12 +39,12 @@ Fork m r i d =
 module _ (m : State) (i : ℕ) where
   fork-only : (r : Record) (k : ℕ) (a : Answer) → Unmoved a → Fork m r i (only m k a)
   unfolding Fork only
-  fork-only r k a no-byte = inr (λ j q e. let z : _≡_ {A = ℕ} 0 1 = cc in omega arith, refl)
-  fork-only r k a (refused n) = inr (λ j q e. let z : _≡_ {A = ℕ} 0 1 = cc in omega arith, refl)
+  fork-only r k a no-byte = inr (λ j q e. clash cc, refl)
+  fork-only r k a (refused n) = inr (λ j q e. clash cc, refl)
 
   -- what names no rule changes none
   no-rule : (k : ℕ) → none ≡ some i → (a : Answer) → a ≡ Changed k → ⊥
-  no-rule k e a f = let z : _≡_ {A = ℕ} 0 1 = cc in omega arith
+  no-rule k e a f = clash cc
 
   fork-taken : (n : ℕ) (r : Record) → Fork m r i (accepted (byAddress m) m n r)
   unfolding Fork ruleOf accepted answers leaves withNodes withLink closed inserted withRule withCut ruleAt

@@ -25,7 +25,7 @@ use Rattle.meaning.specs.Step.{Done, refusal, added, withRule, inserted,
 use Rattle.meaning.specs.Run.{Came, start, more}
 use Rattle.meaning.specs.Tables.{Cuts, Boundary, Sound}
 use Rattle.meaning.proofs.base.InsertAt.{insert-below, insert-same, insert-over}
-use Rattle.meaning.proofs.base.Order.{Order, less, same, more as past, order}
+use Rattle.meaning.proofs.base.Order.{clash, Order, less, same, more as past, order}
 use Rattle.meaning.proofs.atoms.Splits.{within, is-boundary, boundary-is, split-count}
 use Rattle.meaning.proofs.records.Checks.{when-none, Clear, clear}
 use Rattle.meaning.proofs.records.Fields.{Sized, Fits}
@@ -221,10 +221,10 @@ module _ (m : State) (S : Sound m) (x : ℕ) where
     step-has E = go _ (stepped (byAddress m) m room s) (E .ok)
       where
         go : (d : Done) → Stepped (byAddress m) m room s d → d .answer ≡ Changed (E .count) → Is (d .left)
-        go d (short l) e = let z : _≡_ {A = ℕ} 0 1 = cc in absurd (omega arith)
-        go d (ended l g) e = let z : _≡_ {A = ℕ} 0 1 = cc in absurd (omega arith)
-        go d (unread k l g o) e = let z : _≡_ {A = ℕ} 0 1 = cc in absurd (omega arith)
-        go d (turned r n k l g pos f b) e = let z : _≡_ {A = ℕ} 0 1 = cc in absurd (omega arith)
+        go d (short l) e = clash cc
+        go d (ended l g) e = clash cc
+        go d (unread k l g o) e = clash cc
+        go d (turned r n k l g pos f b) e = clash cc
         go d (took r n l g pos f) e =
             let y = when-none _ _ _ f in
             let q : E .taken ≡ r = cc (E .reads) in

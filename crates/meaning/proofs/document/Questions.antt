@@ -22,6 +22,7 @@ use Rattle.meaning.proofs.sound.Kept.{sound}
 use Rattle.meaning.proofs.sound.Ways.{closed-in, loop-circle}
 use Rattle.meaning.proofs.walk.Tests.{round-is, circle-is, reach-is}
 use Rattle.meaning.proofs.document.Fates.{fate-exact}
+use Rattle.meaning.proofs.base.Order.{clash}
 
 pub tally-all : (m : State) (v t : ℕ) → countBelow t (λ a. isOut (fateOf m v a)) + countBelow t (λ a. isLost (fateOf m v a)) + countBelow t (λ a. isRound (fateOf m v a)) ≡ t
 unfolding countBelow isOut isLost isRound
@@ -74,14 +75,14 @@ module _ (m : State) (c : Came m) where
   loop-some a v = (there _ (sought (loopsAt m) top), back _ (sought (loopsAt m) top))
     where
       node : (b : ℕ) → Lowest top (λ i. loopsAt m i ≡ true) b → (o : Option ℕ) → circleAt m b ≡ o → someNode b o ≡ Loop a v → Lowest top (Loops m) a × Lowest (m .nodes) (OnCircle (nextAt m a) (endOf m)) v
-      node b x none f e = let z : _≡_ {A = ℕ} 0 1 = cc in absurd (omega arith)
+      node b x none f e = clash cc
       node b x (some w) f e =
           let p : b ≡ a = cc in
           let q : w ≡ v = cc in
           (loop-lowest a .0 (rw p at x), circle-lowest a v .0 (sym (ap (circleAt m) p) ∙ f ∙ ap some q))
 
       there : (o : Option ℕ) → Sought (loopsAt m) top o → loopFrom m o ≡ Loop a v → Lowest top (Loops m) a × Lowest (m .nodes) (OnCircle (nextAt m a) (endOf m)) v
-      there o (missing f) e = let z : _≡_ {A = ℕ} 0 1 = cc in absurd (omega arith)
+      there o (missing f) e = clash cc
       there o (found b x) e = node b x (circleAt m b) refl e
 
       back : (o : Option ℕ) → Sought (loopsAt m) top o → Lowest top (Loops m) a × Lowest (m .nodes) (OnCircle (nextAt m a) (endOf m)) v → loopFrom m o ≡ Loop a v
@@ -97,7 +98,7 @@ module _ (m : State) (c : Came m) where
     where
       node : (b : ℕ) → loopsAt m b ≡ true → (o : Option ℕ) → circleAt m b ≡ o → someNode b o ≡ NoLoop → ⊥
       node b x none f e = loop-circle m (sound m c) b x f
-      node b x (some w) f e = let z : _≡_ {A = ℕ} 0 1 = cc in omega arith
+      node b x (some w) f e = clash cc
 
       there : (o : Option ℕ) → Sought (loopsAt m) top o → loopFrom m o ≡ NoLoop → (a : ℕ) → a < top → Loops m a → ⊥
       there o (missing f) e a h x = f a h (loops-is a .1 x)
@@ -120,7 +121,7 @@ module _ (m : State) (c : Came m) where
     reach-yes a = (there _ (sought (reachesAt m v w) top), back _ (sought (reachesAt m v w) top))
       where
         there : (o : Option ℕ) → Sought (reachesAt m v w) top o → reachFrom o ≡ Yes a → Lowest top (Comes m v w) a
-        there o (missing f) e = let z : _≡_ {A = ℕ} 0 1 = cc in absurd (omega arith)
+        there o (missing f) e = clash cc
         there o (found b x) e = let p : b ≡ a = cc in lowest-by top _ _ (λ i l. comes-is i) a (rw p at x)
 
         back : (o : Option ℕ) → Sought (reachesAt m v w) top o → Lowest top (Comes m v w) a → reachFrom o ≡ Yes a
@@ -133,7 +134,7 @@ module _ (m : State) (c : Came m) where
       where
         there : (o : Option ℕ) → Sought (reachesAt m v w) top o → reachFrom o ≡ No → (a : ℕ) → a < top → Comes m v w a → ⊥
         there o (missing f) e a l x = f a l (comes-is a .1 x)
-        there o (found b x) e a l y = let z : _≡_ {A = ℕ} 0 1 = cc in omega arith
+        there o (found b x) e a l y = clash cc
 
         back : (o : Option ℕ) → Sought (reachesAt m v w) top o → ((a : ℕ) → a < top → Comes m v w a → ⊥) → reachFrom o ≡ No
         back o (missing f) g = refl

@@ -25,6 +25,7 @@ use Rattle.meaning.proofs.sound.Kept.{sound}
 use Rattle.meaning.proofs.document.Exchange.{exchanged, exchanged-entry, node-there, rules-back}
 use Rattle.meaning.proofs.document.Winners.{insert-stores}
 use Rattle.meaning.proofs.records.Steps.{Stepped, short, ended, unread, turned, took, stepped, reads-fit, accepts}
+use Rattle.meaning.proofs.base.Order.{clash}
 
 -- two change lists over the same atoms and ranges, entry by entry, with old and new link exchanged
 pub data Exchanged : List ℕ → List ℕ → Type 0 where
@@ -67,10 +68,10 @@ module _ (m : State) (c : Came m) (room : ℕ) (s s′ : List ℕ) (r l p n t i 
   took-it = go _ (stepped (byAddress m) m room s) refl ok
     where
       go : (d : Done) → Stepped (byAddress m) m room s d → stepWith (byAddress m) m room (readOf s) ≡ d → d .answer ≡ Changed j → Took
-      go d (short h) q e = let z : _≡_ {A = ℕ} 0 1 = cc in absurd (omega arith)
-      go d (ended h g) q e = let z : _≡_ {A = ℕ} 0 1 = cc in absurd (omega arith)
-      go d (unread k h g o) q e = let z : _≡_ {A = ℕ} 0 1 = cc in absurd (omega arith)
-      go d (turned x k′ k h g pos f b) q e = let z : _≡_ {A = ℕ} 0 1 = cc in absurd (omega arith)
+      go d (short h) q e = clash cc
+      go d (ended h g) q e = clash cc
+      go d (unread k h g o) q e = clash cc
+      go d (turned x k′ k h g pos f b) q e = clash cc
       go d (took x k h g pos f) q e =
           let a : x ≡ insert r l p n t = cc in
           let b : k ≡ i = cc in

@@ -12,10 +12,11 @@ use Rattle.meaning.specs.Hall.{State}
 use Rattle.meaning.specs.Rule.{ruleWord, live}
 use Rattle.meaning.specs.Winner.{ruleAt}
 use Rattle.meaning.proofs.base.Search.{or-neither}
+use Rattle.meaning.proofs.base.Order.{clash}
 
 pub when-none : (t : Bool) (k : ℕ) (o : Option ℕ) → when t k o ≡ none → (t ≡ false) × (o ≡ none)
 unfolding when
-when-none true k o e = let z : _≡_ {A = ℕ} 0 1 = cc in absurd (omega arith)
+when-none true k o e = clash cc
 when-none false k o e = (refl, e)
 
 pub live-not : (w : ℕ) → w ≡ 0 → live w ≡ false

@@ -15,6 +15,7 @@ use Rattle.meaning.specs.declared.Record.{Record}
 use Rattle.meaning.specs.declared.Record.the-variants.{Hall as hall, Link as link, Close as close, Insert as insert, Remove as remove, Loop as loop, Fate as fate, Reach as reach, Tally as tally}
 use Rattle.meaning.specs.Search.{pick}
 use Rattle.meaning.specs.Records.{number, isKind, bodyOf, recordOf, readOf, placeAfter, placedAt}
+use Rattle.meaning.proofs.base.Order.{clash}
 
 module _ (s : List ℕ) (i : ℕ) where
   first : getD s (i + 0) 0 % 256 ≡ getD s i 0 % 256
@@ -116,9 +117,9 @@ read-within s r n e = go (eqb (length s) 0) (not (isKind (getD s 0 0))) (ltb (le
   where
     go : (a b c : Bool) → ltb (length s) (1 + bodyOf (getD s 0 0)) ≡ c
         → pick a End (pick b (Refused 1) (pick c (Refused 2) (Got (recordOf s) (1 + bodyOf (getD s 0 0))))) ≡ Got r n → n ≤ length s
-    go true b c f e = let z : _≡_ {A = ℕ} 0 1 = cc in absurd (omega arith)
-    go false true c f e = let z : _≡_ {A = ℕ} 0 1 = cc in absurd (omega arith)
-    go false false true f e = let z : _≡_ {A = ℕ} 0 1 = cc in absurd (omega arith)
+    go true b c f e = clash cc
+    go false true c f e = clash cc
+    go false false true f e = clash cc
     go false false false f e = let z : 1 + bodyOf (getD s 0 0) ≡ n = cc in omega (arith, ltb-false (length s) (1 + bodyOf (getD s 0 0)) f)
 
 -- what is read at a place, from what was read and the place after it

@@ -26,14 +26,15 @@ use Rattle.meaning.specs.Step.{Done, when, refusal, leaves, changes, tur
 use Rattle.meaning.specs.Box.{left, leftBy, leftOf}
 use Rattle.meaning.proofs.records.Fields.{Fits, fits}
 use Rattle.meaning.proofs.records.Begins.{Begins, nothing, unread as without, whole, begins}
+use Rattle.meaning.proofs.base.Order.{clash}
 
 -- what is read is the record of these bytes, and so its fields have their sizes
 pub reads-fit : (s : List ℕ) (r : Record) (n : ℕ) → readOf s ≡ Got r n → Fits r
 reads-fit s r n e = go (readOf s) (begins s) e
   where
     go : (x : Read) → Begins s x → x ≡ Got r n → Fits r
-    go x (nothing h) e = let z : _≡_ {A = ℕ} 0 1 = cc in absurd (omega arith)
-    go x (without k h) e = let z : _≡_ {A = ℕ} 0 1 = cc in absurd (omega arith)
+    go x (nothing h) e = clash cc
+    go x (without k h) e = clash cc
     go x (whole h) e = let q : recordOf s ≡ r = cc in rw q at (fits s)
 
 -- the five ways: the list is too short; no byte is left; the kind is unknown or the body cut off; the record is refused; it is accepted
@@ -51,7 +52,7 @@ abbrev Above : Option ℕ → Type 0
 Above o = (k : ℕ) → o ≡ some k → 2 < k
 
 above-none : Above none
-above-none k e = let z : _≡_ {A = ℕ} 0 1 = cc in absurd (omega arith)
+above-none k e = clash cc
 
 above-when : (t : Bool) (n : ℕ) (o : Option ℕ) → 2 < n → Above o → Above (when t n o)
 unfolding when
@@ -100,9 +101,9 @@ module _ (ask : Record → Answer) (m : State) (room : ℕ) (s : List ℕ) where
 
       go : (d : Done) → Stepped ask m room s d → d ≡ accepted ask m n r
       go d (short l) = absurd (omega arith)
-      go d (ended l q) = let z : _≡_ {A = ℕ} 0 1 = cc in absurd (omega arith)
-      go d (unread k l q o) = let z : _≡_ {A = ℕ} 0 1 = cc in absurd (omega arith)
-      go d (turned r′ n′ k l q pos f b) = let x : r′ ≡ r = cc in let z : _≡_ {A = ℕ} 0 1 = cc (ap (turnedBy m) x, passes) in absurd (omega arith)
+      go d (ended l q) = clash cc
+      go d (unread k l q o) = clash cc
+      go d (turned r′ n′ k l q pos f b) = let x : r′ ≡ r = cc in clash (cc (ap (turnedBy m) x, passes))
       go d (took r′ n′ l q pos f) = let x : r′ ≡ r = cc in let y : n′ ≡ n = cc in rw (x, y)
 
   -- the way of a record that is refused by a number above 2
@@ -111,10 +112,10 @@ module _ (ask : Record → Answer) (m : State) (room : ℕ) (s : List ℕ) where
     where
       go : (d : Done) → Stepped ask m room s d → d ≡ only m n (Refused k)
       go d (short l) = absurd (omega arith)
-      go d (ended l q) = let z : _≡_ {A = ℕ} 0 1 = cc in absurd (omega arith)
-      go d (unread k l q o) = let z : _≡_ {A = ℕ} 0 1 = cc in absurd (omega arith)
+      go d (ended l q) = clash cc
+      go d (unread k l q o) = clash cc
       go d (turned r′ n′ k′ l q pos f b) = let x : r′ ≡ r = cc in let y : n′ ≡ n = cc in let z : k′ ≡ k = cc (ap (turnedBy m) x) in rw (y, z)
-      go d (took r′ n′ l q pos f) = let x : r′ ≡ r = cc in let z : _≡_ {A = ℕ} 0 1 = cc (ap (turnedBy m) x) in absurd (omega arith)
+      go d (took r′ n′ l q pos f) = let x : r′ ≡ r = cc in clash (cc (ap (turnedBy m) x))
 
 -- ---- what stays
 

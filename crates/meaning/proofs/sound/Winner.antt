@@ -15,6 +15,7 @@ use Rattle.meaning.specs.Tables.{Sound}
 use Rattle.meaning.proofs.rules.Ranks.{Wins, Distinct, wins-once, winner-law}
 use Rattle.meaning.proofs.base.Search.{and-both}
 use Rattle.meaning.proofs.rules.Covers.{both-cover}
+use Rattle.meaning.proofs.base.Order.{clash}
 
 -- w is the one eligible rule of the highest rank, or 256 where no rule is eligible
 abbrev pub Winner : State → ℕ → ℕ → ℕ → Type 0
@@ -57,7 +58,7 @@ module _ (m : State) (S : Sound m) (v a : ℕ) where
   taken-link l e = go wins (ltb (winner m v a) 256) refl e
     where
       go : Winner m v a (winner m v a) → (t : Bool) → ltb (winner m v a) 256 ≡ t → pick t (some (linkOf (ruleAt m (winner m v a)))) none ≡ some l → l < m .links
-      go x false p f = let z : _≡_ {A = ℕ} 0 1 = cc in absurd (omega arith)
+      go x false p f = clash cc
       go (inl x) true p f = absurd (omega (arith, x .0, ltb-true (winner m v a) 256 p))
       go (inr x) true p f =
           let q : linkOf (ruleAt m (winner m v a)) ≡ l = cc in

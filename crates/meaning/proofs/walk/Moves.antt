@@ -9,6 +9,7 @@ use lib.Dec.{ltb}
 use borrow.Author.Tests.{ltb-true, ltb-false, lt-ltb, le-ltb}
 use Rattle.meaning.specs.Search.{pick}
 use Rattle.meaning.specs.Walk.{Place, at, out, lost, arrive, leave, move}
+use Rattle.meaning.proofs.base.Order.{clash}
 
 module _ (next : ℕ → Option ℕ) (end : ℕ → ℕ) (v : ℕ) where
   -- the packet goes on to node w by a link that ends there
@@ -48,8 +49,8 @@ module _ (next : ℕ → Option ℕ) (end : ℕ → ℕ) (v : ℕ) where
     where
       there : (p : Place) → Moved p → p ≡ at w → GoesTo w
       there p (to l e h) f = let q : end l ≡ w = cc in (l, e, q, omega arith)
-      there p (by l e h g) f = let z : _≡_ {A = ℕ} 0 1 = cc in absurd (omega arith)
-      there p (off x) f = let z : _≡_ {A = ℕ} 0 1 = cc in absurd (omega arith)
+      there p (by l e h g) f = clash cc
+      there p (off x) f = clash cc
 
       back : GoesTo w → move next end (at v) ≡ at w
       back (l, e, g, h) = rw (e, lt-ltb (end l) 256 (omega arith)) (ap at g)
@@ -59,9 +60,9 @@ module _ (next : ℕ → Option ℕ) (end : ℕ → ℕ) (v : ℕ) where
   leaves-by k = (there _ moved, back)
     where
       there : (p : Place) → Moved p → p ≡ out k → LeavesBy k
-      there p (to l e h) f = let z : _≡_ {A = ℕ} 0 1 = cc in absurd (omega arith)
+      there p (to l e h) f = clash cc
       there p (by l e h g) f = let q : l ≡ k = cc in (e ∙ ap some q, rw q at h, rw q at g)
-      there p (off x) f = let z : _≡_ {A = ℕ} 0 1 = cc in absurd (omega arith)
+      there p (off x) f = clash cc
 
       back : LeavesBy k → move next end (at v) ≡ out k
       back (e, g, h) = rw (e, le-ltb (end k) 256 g, lt-ltb (end k) 512 h)
@@ -71,8 +72,8 @@ module _ (next : ℕ → Option ℕ) (end : ℕ → ℕ) (v : ℕ) where
   lost-at = (there _ moved, back)
     where
       there : (p : Place) → Moved p → p ≡ lost v → IsLostAt
-      there p (to l e h) f = let z : _≡_ {A = ℕ} 0 1 = cc in absurd (omega arith)
-      there p (by l e h g) f = let z : _≡_ {A = ℕ} 0 1 = cc in absurd (omega arith)
+      there p (to l e h) f = clash cc
+      there p (by l e h g) f = clash cc
       there p (off x) f = x
 
       back : IsLostAt → move next end (at v) ≡ lost v
@@ -84,6 +85,6 @@ module _ (next : ℕ → Option ℕ) (end : ℕ → ℕ) (v : ℕ) where
   lost-here w = go _ moved
     where
       go : (p : Place) → Moved p → p ≡ lost w → w ≡ v
-      go p (to l e h) f = let z : _≡_ {A = ℕ} 0 1 = cc in absurd (omega arith)
-      go p (by l e h g) f = let z : _≡_ {A = ℕ} 0 1 = cc in absurd (omega arith)
+      go p (to l e h) f = clash cc
+      go p (by l e h g) f = clash cc
       go p (off x) f = cc

@@ -12,6 +12,7 @@ use Rattle.meaning.specs.declared.Fate.the-variants.{Out, Lost, Round}
 use Rattle.meaning.specs.Walk.{Place, at, out, lost, leave, move, after, told, fateIn}
 use Rattle.meaning.proofs.walk.Moves.{lost-here}
 use Rattle.meaning.proofs.base.Pigeon.{pigeon}
+use Rattle.meaning.proofs.base.Order.{clash}
 
 module _ (next : ℕ → Option ℕ) (end : ℕ → ℕ) where
   -- the walk from p is still going after k moves: the packet stands at a node
@@ -84,8 +85,8 @@ module _ (next : ℕ → Option ℕ) (end : ℕ → ℕ) where
       where
         go : (q : Place) → after next end k p ≡ q → Going next end k p
         go (at w) e = (w, e)
-        go (out l) e = let z : _≡_ {A = ℕ} 0 1 = cc (after-suc k p, ap (move next end) e, g .1) in absurd (omega arith)
-        go (lost l) e = let z : _≡_ {A = ℕ} 0 1 = cc (after-suc k p, ap (move next end) e, g .1) in absurd (omega arith)
+        go (out l) e = clash (cc (after-suc k p, ap (move next end) e, g .1))
+        go (lost l) e = clash (cc (after-suc k p, ap (move next end) e, g .1))
 
     going-sub : (d k m : ℕ) → k + d ≡ m → Going next end m p → Going next end k p
     going-sub zero k m e g = let f : m ≡ k = omega arith in rw f at g
@@ -177,10 +178,10 @@ module _ (next : ℕ → Option ℕ) (end : ℕ → ℕ) where
         omega arith
 
     stops-out : (l h w : ℕ) → after next end h (at v) ≡ at w → move next end (at w) ≡ out l → ¬ Going next end (suc h) (at v)
-    stops-out l h = stops h (out l) (λ w e. let z : _≡_ {A = ℕ} 0 1 = cc in omega arith)
+    stops-out l h = stops h (out l) (λ w e. clash cc)
 
     stops-lost : (u h w : ℕ) → after next end h (at v) ≡ at w → move next end (at w) ≡ lost u → ¬ Going next end (suc h) (at v)
-    stops-lost u h = stops h (lost u) (λ w e. let z : _≡_ {A = ℕ} 0 1 = cc in omega arith)
+    stops-lost u h = stops h (lost u) (λ w e. clash cc)
 
     pub one-fate : (f g : Fate) → IsFate next end v f → IsFate next end v g → f ≡ g
     unfolding IsFate
