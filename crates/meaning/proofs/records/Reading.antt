@@ -126,12 +126,3 @@ read-within s r n e = go (eqb (length s) 0) (not (isKind (getD s 0 0))) (ltb (le
 pub placed : (s : List ℕ) (at : ℕ) (x : Read) (p : ℕ) → x ≡ readOf (drop at s) → p ≡ placeAfter at x → _≡_ {A = Placed} (record { read = x; place = p }) (placedAt s at)
 unfolding placedAt
 placed s at x p e f = let g : p ≡ placeAfter at (readOf (drop at s)) = f ∙ ap (placeAfter at) e in λ i. record { read = e i; place = g i }
-
--- and back: what was read is what the rest of the stream begins with, and the place is the one after it
-pub placed-read : (s : List ℕ) (at : ℕ) (r : Placed) → r ≡ placedAt s at → r .read ≡ readOf (drop at s)
-unfolding placedAt
-placed-read s at r e = ap (λ (x : Placed). x .read) e
-
-pub placed-place : (s : List ℕ) (at : ℕ) (r : Placed) → r ≡ placedAt s at → r .place ≡ placeAfter at (r .read)
-unfolding placedAt
-placed-place s at r e = ap (λ (x : Placed). x .place) e ∙ sym (ap (placeAfter at) (placed-read s at r e))
