@@ -17,6 +17,8 @@ use Rattle.meaning.specs.Winner.{winner, nextAt}
 use Rattle.meaning.specs.Atoms.{placeOf}
 use Rattle.meaning.specs.Labels.{on, names, isOn, labelsOf, howMany, lowestOn}
 use Rattle.meaning.specs.Run.{Came}
+use Rattle.meaning.specs.declared.Hall.{Hall}
+use Rattle.meaning.specs.Box.{stateOf, Held, AtomsHeld}
 use Rattle.meaning.specs.Tables.{Holds, Sound}
 use Rattle.meaning.proofs.base.Search.{count-same, count-until, lowest-agree}
 use Rattle.meaning.proofs.base.Order.{le-or-lt}
@@ -124,6 +126,10 @@ module _ (m : State) (c : Came m) where
 
   pub no-bit : (l k : ℕ) → l < 64 → m .atoms ≤ k → k < 512 → on (labelsOf m) l k ≡ false
   no-bit l k hl h hk = labels-on m l k hl hk ∙ no-atom l k h
+
+-- the premise where only cuts and numbers are lent holds of every box that is held
+pub atoms-held : (h : Hall) (link rule cut number label owner : List ℕ) → Held (stateOf h link rule cut number) label owner → AtomsHeld h cut number
+atoms-held h link rule cut number label owner x = record { link = link; rule = rule; label = label; owner = owner; held = x }
 
 -- ---- how many atoms a link has, and the lowest-numbered one, asked of the label itself
 

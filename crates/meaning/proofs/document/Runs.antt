@@ -1,16 +1,17 @@
 -- Where the place stays and where it goes on: a step passes no byte exactly when it is answered "end", 0, 1 or 2, and a run stops at one of these;
 -- a reader goes on as a step does. What stands in the lent list, and how many entries an accepted insert or remove writes. Assumes nothing.
-use mathlib.Core.Path.{_≡_, refl, ap, _∙_}
+use mathlib.Core.Path.{_≡_, refl, sym, ap, _∙_}
 use mathlib.Core.Logic.{_↔_, inl, inr}
 use mathlib.Core.Bool.{false}
 use mathlib.Core.Option.{Option, none, some}
 use mathlib.Core.List.{List}
 use Prim.Native.Nat.{ℕ, zero, suc, _+_, _-_, _*_, _≤_, _<_}
+use native.Mathlib.Numerals.{add-one}
 use native.Mathlib.Omega.{arith}
 use lib.Dec.{eqb}
 use lib.ListN.{length, getD, drop, length-append, length-drop, List·getD-append}
 use lib.Seq.{drop-drop, getD-append-add, getD-drop}
-use borrow.Author.Tests.{ne-eqb}
+use borrow.Author.Tests.{eq-eqb, ne-eqb}
 use Rattle.meaning.specs.declared.Answer.{Answer}
 use Rattle.meaning.specs.declared.Answer.the-variants.{End, Refused, Ok, Changed, Loop, NoLoop, Went, Yes, No, Tally}
 use Rattle.meaning.specs.declared.Record.{Record}
@@ -19,11 +20,14 @@ use Rattle.meaning.specs.Search.{pick, lowestBelow}
 use Rattle.meaning.specs.Hall.{top, State, fresh, sourceOf}
 use Rattle.meaning.specs.Rule.{linkOf}
 use Rattle.meaning.specs.Winner.{ruleAt}
+use Rattle.meaning.specs.Labels.{labelsOf}
+use Rattle.meaning.specs.Working.{ownersOf}
 use Rattle.meaning.specs.Changes.{overwrite}
 use Rattle.meaning.specs.Questions.{loopsAt, circleAt, someNode, loopFrom, reachesAt, reachFrom, asked, byAddress}
 use Rattle.meaning.specs.Records.{readOf, placeAfter}
 use Rattle.meaning.specs.Step.{Done, leaves, listed, changes, only, answers, accepted, stepOf}
 use Rattle.meaning.specs.Run.{Ran, runFrom, runOf, Came, start, more}
+use Rattle.meaning.specs.Box.{left, leftBy, leftOf, ranBy, ranOf}
 use Rattle.meaning.specs.Tables.{Sound}
 use Rattle.meaning.proofs.sound.Kept.{sound}
 use Rattle.meaning.proofs.atoms.ChangeList.{changed-few, entries-length}
@@ -257,7 +261,15 @@ module _ (m : State) (room : ℕ) (s : List ℕ) (c : Came m) where
       go d (turned r i k l q pos f b) S e = absurd (omega (arith, ap sort e))
       go d (took r i l q pos f) S e = entries i r n S e
 
--- so turns enough are as good as any more
+-- THE LAW: a run whose first step passes no byte leaves what that step leaves, having gone past no record
+pub ran-stops : (list s : List ℕ) → stepOf fresh (length list) s .passed ≡ 0 → ranOf list s ≡ leftOf fresh list s
+unfolding ranOf ranBy leftOf leftBy runOf runFrom
+ran-stops list s e =
+    let d = stepOf fresh (length list) s in
+    rw (add-one (length s), eq-eqb (d .passed) 0 e)
+    (ap (λ (n : ℕ). left (d .answer) n (d .left) (labelsOf (d .left)) (ownersOf (d .left)) (overwrite (d .written) list)) (sym e))
+
+-- turns enough are as good as any more
 pub run-enough : (step : State → ℕ → List ℕ → Done) → ((m : State) (room : ℕ) (s : List ℕ) → step m room s .passed ≤ length s)
     → (k j n : ℕ) (m : State) (list s : List ℕ) → length s < k → k ≤ j → runFrom step k n m list s ≡ runFrom step j n m list s
 unfolding runFrom

@@ -75,6 +75,19 @@ numberIn (Node v) = v
 numberIn (Port p) = p
 numberIn Drop = 0
 
+-- and its code that of a link record: 0 node, 1 port, 2 drop
+pub codeIn : End → ℕ
+codeIn (Node v) = 0
+codeIn (Port p) = 1
+codeIn Drop = 2
+
+-- an end's number is what a link record says of it
+pub end-is : (e : End) → endNumber e ≡ codeIn e * 256 + numberIn e
+unfolding endNumber numberIn codeIn
+end-is (Node v) = omega arith
+end-is (Port p) = omega arith
+end-is Drop = omega arith
+
 module _ (source : ℕ) (e : End) (byte : numberIn e < 256) where
   few : endNumber e < 1024
   unfolding endNumber numberIn
