@@ -1,12 +1,12 @@
 -- The loop over the records: what holds before each, and what a record leaves. Assumes nothing.
-use mathlib.Core.Path.{_≡_, sym, _∙_, subst}
+use mathlib.Core.Path.{_≡_, refl, sym, _∙_, subst}
 use mathlib.Core.List.{List}
-use Prim.Native.Nat.{ℕ, _+_, _-_, _≤_}
+use Prim.Native.Nat.{ℕ, _+_, _-_, _*_, _≤_}
 use native.Mathlib.Omega.{arith}
 use lib.ListN.{length, take, drop, length-drop}
 use lib.Seq.{length-take-le}
 use Rattle.meaning.specs.declared.Answer.{Answer}
-use Rattle.meaning.specs.declared.Answer.the-variants.{Changed}
+use Rattle.meaning.specs.declared.Answer.the-variants.{End, Refused, Ok, Changed, Loop, NoLoop, Went, Yes, No, Tally}
 use Rattle.meaning.specs.Hall.{State, fresh}
 use Rattle.meaning.specs.Labels.{labelsOf}
 use Rattle.meaning.specs.Working.{ownersOf}
@@ -18,7 +18,7 @@ use Rattle.meaning.proofs.records.Passed.{passed-few}
 use Rattle.lent.proofs.Steps.{left-said, left-passed, held-after}
 use Rattle.meaning.proofs.records.Said.{said-once}
 use Rattle.meaning.proofs.document.Runs.{lists}
-use Rattle.hallcheck.specs.Room.{Room, Listed}
+use Rattle.hallcheck.specs.Room.{Room, Listed, entriesOf}
 
 -- before a record: the box came from a fresh one, both places lie within, and there is room in the list and in the output
 pub record Going (bytes : List ℕ) (m : State) (label owner list out : List ℕ) (at place end : ℕ) : Type 0 where
@@ -41,10 +41,26 @@ module _ (bytes : List ℕ) (m : State) (label owner list out : List ℕ) (at pl
     (e : left a n m′ label′ owner′ list′ ≡ leftOf m list (take (length bytes - at) (drop at bytes))) (k : length list′ ≡ length list) where
   -- the entries that its answer counts stand in the list
   pub listed : Listed a list′
-  listed =
-      let s = take (length bytes - at) (drop at bytes) in
-      let same = said-once a (stepOf m (length list) s .answer) (left-said m m′ label′ owner′ list list′ s a n e) in
-      record { entries = λ j q. omega (arith, lists m (length list) s (g .held .came) j (sym same ∙ q) .few, g .entries) }
+  unfolding entriesOf
+  listed = record { entries = go a refl }
+    where
+      s : List ℕ
+      s = take (length bytes - at) (drop at bytes)
+
+      same : a ≡ stepOf m (length list) s .answer
+      same = said-once a (stepOf m (length list) s .answer) (left-said m m′ label′ owner′ list list′ s a n e)
+
+      go : (x : Answer) → a ≡ x → entriesOf x * 5 ≤ length list′
+      go (Changed j) q = omega (arith, lists m (length list) s (g .held .came) j (sym same ∙ q) .few, g .entries)
+      go End q = omega arith
+      go (Refused j) q = omega arith
+      go Ok q = omega arith
+      go (Loop b v) q = omega arith
+      go NoLoop q = omega arith
+      go (Went f) q = omega arith
+      go (Yes b) q = omega arith
+      go No q = omega arith
+      go (Tally o l r) q = omega arith
 
   -- the next record
   pub goes : (out′ : List ℕ) (end′ : ℕ) → Room out′ end′ → (n ≡ 0 → ⊥) → Going bytes m′ label′ owner′ list′ out′ (at + n) (place + 1) end′

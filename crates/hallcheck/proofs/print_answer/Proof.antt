@@ -1,4 +1,5 @@
 -- `hallcheck::print_answer` meets its contract. Assumes nothing.
+use native.Mathlib.Omega.{arith}
 use borrow.Author.Needs.{needs}
 use Rattle.hallcheck.proofs.print_answer.Statement.{statement}
 use Rattle.hallcheck.proofs.print_answer.Tie as tie
@@ -23,7 +24,7 @@ print-changes-requires c κs =
     let w = c .before .before .before .before in
     let m = w .before .before in
     let start = m .before .before .before .before .before in
-    (search (needs, w .put-line .ensures .fits (m .make-room .ensures)), c .entries-of .ensures .stand _ (start .pre .1))
+    (search (needs, w .put-line .ensures .fits (m .make-room .ensures)), omega (arith, c .entries-of .ensures, start .pre .1 .entries))
 
 pub print-answer-spec : {M : Type 1} → statement M
 print-answer-spec =
