@@ -56,6 +56,6 @@ pub record Sound (m : State) : Type 0 where
   pub sources : (l : ℕ) → l < m .links → sourceOf m l < m .nodes
   pub ends : (l : ℕ) → l < m .links → endOf m l < 256 → endOf m l < m .nodes
   pub unused : (l : ℕ) → m .links ≤ l → getD (m .link) l 0 ≡ 0
-  -- no link before the hall, and no rule before the close
-  pub bare : m .phase ≡ 0 → m .links ≡ 0
+  -- no link and no node before the hall, and no rule before the close
+  pub bare : m .phase ≡ 0 → (m .links ≡ 0) × (m .nodes ≡ 0)
   pub idle : m .phase < 2 → (i : ℕ) → live (ruleAt m i) ≡ false

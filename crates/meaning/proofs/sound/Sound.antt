@@ -102,6 +102,6 @@ fresh-sound = record {
   sources = unfold fresh in λ l h. absurd (not-suc-le-zero h);
   ends = unfold fresh in λ l h. absurd (not-suc-le-zero h);
   unused = unfold fresh in λ l h. zeros 64 l;
-  bare = λ e. unfold fresh in refl;
+  bare = λ e. unfold fresh in (refl, refl);
   idle = λ h. fresh-idle;
 }
