@@ -18,10 +18,10 @@ use Rattle.meaning.proofs.records.Passed.{passed-few}
 use Rattle.lent.proofs.Steps.{left-said, left-passed, held-after}
 use Rattle.meaning.proofs.records.Said.{said-once}
 use Rattle.meaning.proofs.document.Runs.{lists}
-use Rattle.hallcheck.specs.Room.{Room, Listed, entriesOf}
+use Rattle.hallcheck.specs.Room.{Room, HasEntries, entriesOf}
 
 -- before a record: the box came from a fresh one, both places lie within, and there is room in the list and in the output
-pub record Going (bytes : List ℕ) (m : State) (label owner list out : List ℕ) (at place end : ℕ) : Type 0 where
+pub record Between (bytes : List ℕ) (m : State) (label owner list out : List ℕ) (at place end : ℕ) : Type 0 where
   pub held : Held m label owner
   pub inside : at ≤ length bytes
   pub slow : place ≤ at
@@ -36,11 +36,11 @@ held-fresh m label owner e l o = subst (λ (x : State). Held x label owner) (sym
 rest-length : (bytes : List ℕ) (at : ℕ) → length (take (length bytes - at) (drop at bytes)) ≡ length bytes - at
 rest-length bytes at = length-take-le (length bytes - at) (drop at bytes) (omega (arith, length-drop at bytes))
 
-module _ (bytes : List ℕ) (m : State) (label owner list out : List ℕ) (at place end : ℕ) (g : Going bytes m label owner list out at place end)
+module _ (bytes : List ℕ) (m : State) (label owner list out : List ℕ) (at place end : ℕ) (g : Between bytes m label owner list out at place end)
     (a : Answer) (n : ℕ) (m′ : State) (label′ owner′ list′ : List ℕ)
     (e : left a n m′ label′ owner′ list′ ≡ leftOf m list (take (length bytes - at) (drop at bytes))) (k : length list′ ≡ length list) where
   -- the entries that its answer counts stand in the list
-  pub listed : Listed a list′
+  pub listed : HasEntries a list′
   unfolding entriesOf
   listed = record { entries = go a refl }
     where
@@ -63,7 +63,7 @@ module _ (bytes : List ℕ) (m : State) (label owner list out : List ℕ) (at pl
       go (Tally o l r) q = omega arith
 
   -- the next record
-  pub goes : (out′ : List ℕ) (end′ : ℕ) → Room out′ end′ → (n ≡ 0 → ⊥) → Going bytes m′ label′ owner′ list′ out′ (at + n) (place + 1) end′
+  pub goes : (out′ : List ℕ) (end′ : ℕ) → Room out′ end′ → (n ≡ 0 → ⊥) → Between bytes m′ label′ owner′ list′ out′ (at + n) (place + 1) end′
   unfolding stepOf
   goes out′ end′ r z =
       let s = take (length bytes - at) (drop at bytes) in

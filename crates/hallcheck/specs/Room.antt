@@ -25,5 +25,5 @@ entriesOf No = 0
 entriesOf (Tally o l r) = 0
 
 -- the entries that an answer counts stand in the change list, five words each
-pub record Listed (a : Answer) (list : List ℕ) : Type 0 where
+pub record HasEntries (a : Answer) (list : List ℕ) : Type 0 where
   pub entries : entriesOf a * 5 ≤ length list

@@ -6,7 +6,7 @@ ghost use mathlib.Core.Path.{_≡_};
 ghost use Prim.Native.Nat.{_+_, _*_, _≤_};
 ghost use lib.ListN.{length};
 ghost use Rattle.meaning.specs.Box.{stateOf, Held};
-ghost use Rattle.hallcheck.specs.Room.{Room, Listed, entriesOf};
+ghost use Rattle.hallcheck.specs.Room.{Room, HasEntries, entriesOf};
 
 // Whether standard input has a byte more.
 fn is_more() -> bool {
@@ -71,7 +71,7 @@ fn entries_of(answer: Answer) -> usize
 // A record's line, and the entries of its change list. "End" prints nothing.
 fn print_answer(out: &mut [u8], end: usize, place: u64, answer: Answer, list: &[u64]) -> usize
     requires { ⌜ Room (now out) end ⌝ }
-    requires { ⌜ Listed answer (now list) ⌝ }
+    requires { ⌜ HasEntries answer (now list) ⌝ }
     ensures { λ r. ⌜ Room (now (out .exit)) r ⌝ }
 {
     match answer {

@@ -53,40 +53,40 @@ lent-once x y e l o = λ i. record {
 }
 
 -- what `take_record`, `take_insert`, `take_remove` and `run_stream` return and leave: the answer, the count (of bytes, of records), the box and the lent list
-pub record Outcome : Type 0 where
+pub record Returned : Type 0 where
   pub answer : Answer
   pub count : ℕ
   pub box : Lent
   pub list : List ℕ
 
-abbrev pub leaves : Outcome → Left
+abbrev pub leaves : Returned → Left
 leaves o = left (o .answer) (o .count) (state (o .box)) (o .box .label) (o .box .owner) (o .list)
 
-outcome-once : (x y : Outcome) → leaves x ≡ leaves y → x ≡ y
+outcome-once : (x y : Returned) → leaves x ≡ leaves y → x ≡ y
 outcome-once x y e =
     let s = left-once (x .answer) (y .answer) (x .count) (y .count) (state (x .box)) (state (y .box)) (x .box .label) (y .box .label) (x .box .owner) (y .box .owner) (x .list) (y .list) e in
     let b = lent-once (x .box) (y .box) (s .state) (s .labels) (s .owners) in
     λ i. record { answer = s .answer i; count = s .count i; box = b i; list = s .lists i }
 
 -- `hall::take_record` on the state m, the lent list and the bytes
-pub take-record-once : (m : State) (list bytes : List ℕ) (x y : Outcome) → leaves x ≡ leftOf m list bytes → leaves y ≡ leftOf m list bytes → x ≡ y
+pub take-record-once : (m : State) (list bytes : List ℕ) (x y : Returned) → leaves x ≡ leftOf m list bytes → leaves y ≡ leftOf m list bytes → x ≡ y
 take-record-once m list bytes x y p q = outcome-once x y (p ∙ sym q)
 
 -- `tables::take_insert` and `tables::take_remove` on the state m, the lent list and the record that was read
-pub left-for-once : (m : State) (list : List ℕ) (read : Read) (x y : Outcome) → leaves x ≡ leftFor m list read → leaves y ≡ leftFor m list read → x ≡ y
+pub left-for-once : (m : State) (list : List ℕ) (read : Read) (x y : Returned) → leaves x ≡ leftFor m list read → leaves y ≡ leftFor m list read → x ≡ y
 left-for-once m list read x y p q = outcome-once x y (p ∙ sym q)
 
 -- `stream::run_stream` on the lent list and the bytes
-pub run-stream-once : (list bytes : List ℕ) (x y : Outcome) → leaves x ≡ ranOf list bytes → leaves y ≡ ranOf list bytes → x ≡ y
+pub run-stream-once : (list bytes : List ℕ) (x y : Returned) → leaves x ≡ ranOf list bytes → leaves y ≡ ranOf list bytes → x ≡ y
 run-stream-once list bytes x y p q = outcome-once x y (p ∙ sym q)
 
 -- what `stream::clear_box` ensures
-pub record Cleared (x : Lent) : Type 0 where
+pub record IsFresh (x : Lent) : Type 0 where
   pub state-is : state x ≡ fresh
   pub labels : x .label ≡ labelsOf fresh
   pub owners : x .owner ≡ ownersOf fresh
 
-pub clear-box-once : (x y : Lent) → Cleared x → Cleared y → x ≡ y
+pub clear-box-once : (x y : Lent) → IsFresh x → IsFresh y → x ≡ y
 clear-box-once x y p q = lent-once x y (p .state-is ∙ sym (q .state-is)) (p .labels ∙ sym (q .labels)) (p .owners ∙ sym (q .owners))
 
 -- `labels::lowest_on`: what was found determines the answer

@@ -12,7 +12,7 @@ use lib.Bits.{bitOr, bitAnd, or-comm}
 use borrow.Author.Count.{below-more}
 use borrow.Author.Tests.{lt-ltb, eq-eqb, ne-eqb}
 use Rattle.meaning.specs.Search.{anyBelow}
-use Rattle.meaning.specs.Walk.{Place, at, out, lost, move, after, standsAt, onCircle, comesTo}
+use Rattle.meaning.specs.Walk.{Position, at, out, lost, move, after, standsAt, onCircle, comesTo}
 use Rattle.meaning.proofs.walk.Moves.{goes-to}
 use Rattle.meaning.proofs.walk.Walks.{Reaches, after-suc, going-le}
 use Rattle.meaning.proofs.base.Order.{clash, le-or-lt}
@@ -67,7 +67,7 @@ module _ (next : ℕ → Option ℕ) (end : ℕ → ℕ) (v i u : ℕ) (here : a
   unfolding standsAt
   stopped off k w l = go (after next end k (at v)) refl
     where
-      go : (q : Place) → after next end k (at v) ≡ q → standsAt w q ≡ false
+      go : (q : Position) → after next end k (at v) ≡ q → standsAt w q ≡ false
       go (out x) e = refl
       go (lost x) e = refl
       go (at x) e =

@@ -31,7 +31,7 @@ use Rattle.lent.specs.Nodes.{among, Off}
 use Rattle.lent.proofs.Walking.{in-none, in-all, in-either, in-both, in-alone, in-new, in-old, NotYet, no-owner, to-node, to-end}
 use Rattle.lent.proofs.Labelled.{via-named, starts}
 use Rattle.lent.proofs.Questions.{small-atom, ends-of, loop-none, reach-none}
-use Rattle.questions.specs.Moves.{Comes}
+use Rattle.questions.specs.Moves.{ComesBy}
 use Rattle.questions.specs.Leads.{Empty, leadsTo, Leads, LetLead, Circular, OffLeads, Met, Widened, TowardLeads, Together, OffWalks, TowardWalks}
 
 -- what is true and false at once
@@ -275,7 +275,7 @@ module _ (link label lead owner : List ℕ) (L : Leads link label 64 lead) (T : 
   pub off-of : (n off : ℕ) → OffLeads lead off → Off (nextIn owner k) (endIn link) n off
   off-of n off O = record { none-on = O .none-in (onCircle (nextIn owner k) (endIn link) n) (circular n) }
 
-  pub comes-of : (w to : ℕ) → TowardLeads lead w to → Comes (nextIn owner k) (endIn link) w to
+  pub comes-of : (w to : ℕ) → TowardLeads lead w to → ComesBy (nextIn owner k) (endIn link) w to
   unfolding after
   comes-of w to F = record { from = λ x h r. go (r .0) x h (r .1) }
     where
@@ -294,7 +294,7 @@ toward-walks link label lead w to L F = record { each = λ owner T k hk. comes-o
 
 -- a walk that stands at a node of which no walk comes to w, and stood at other nodes than w before, does not come to w
 pub strayed : (next : ℕ → Option ℕ) (end : ℕ → ℕ) (v w i u to : ℕ) → after next end i (at v) ≡ at u → NotYet next end v w i
-    → Comes next end w to → u < 16 → bit to u ≡ 0 → (n : ℕ) → comesTo next end n v w ≡ false
+    → ComesBy next end w to → u < 16 → bit to u ≡ 0 → (n : ℕ) → comesTo next end n v w ≡ false
 unfolding comesTo
 strayed next end v w i u to here before C h e n = go (comesTo next end n v w) refl
   where

@@ -28,7 +28,7 @@ use Rattle.lent.specs.Sets.{sourceIn, Carries, Reached, Within, leavesBy, goesO
 use Rattle.lent.proofs.Sets.{moved-by, moves-on, carries-of, out-is, lost-is}
 use Rattle.lent.proofs.LabelWords.{trailing-below, trailing-at}
 use Rattle.meaning.proofs.base.Bits.{zero-bits, set-bit, clear-bit, shifted, or-bits, and-bits, without-bits, ones-bits, or-none, xor-none}
-use Rattle.questions.specs.Standing.{Declared, Filled, JoinedRow, TakenAway, Kept, Took, Leaving, SettledBut, Along, Round, Spread, Outward, Stayed, GatheredRow, Gathered, Divided}
+use Rattle.questions.specs.Standing.{Declared, Filled, JoinedRow, TakenAway, Kept, CarriedOn, Leaving, SettledBut, Along, Round, Spread, Outward, Stayed, GatheredRow, Gathered, Divided}
 
 -- a box in order has links that start at nodes
 pub declared-of : {m : State} {label owner : List ℕ} → Whole m label owner → Declared (m .link) (m .links)
@@ -307,7 +307,7 @@ module _ {link label : List ℕ} {links l s r : ℕ} {b a : List ℕ} {new : ℕ
 -- ---- a round
 
 -- a round where the links of `left` are still to be taken
-pub record Going (link label : List ℕ) (links : ℕ) (before after : List ℕ) (left next : ℕ) : Type 0 where
+pub record Spreading (link label : List ℕ) (links : ℕ) (before after : List ℕ) (left next : ℕ) : Type 0 where
   pub size : length after ≡ 144
   pub kept : Kept before after
   pub reached : (owner : List ℕ) (nodes v : ℕ) → Carries link label owner links nodes → Reached link owner v before → Reached link owner v after
@@ -317,7 +317,7 @@ pub record Going (link label : List ℕ) (links : ℕ) (before after : List ℕ)
   pub declared : (l : ℕ) → l < 64 → among left l ≡ true → l < links
   pub declared-next : (l : ℕ) → l < 64 → among next l ≡ true → l < links
 
-pub going-start : (link label : List ℕ) (links : ℕ) (b : List ℕ) (from : ℕ) → length b ≡ 144 → SettledBut link label links from b → Going link label links b b from 0
+pub going-start : (link label : List ℕ) (links : ℕ) (b : List ℕ) (from : ℕ) → length b ≡ 144 → SettledBut link label links from b → Spreading link label links b b from 0
 going-start link label links b from size S = record {
   size = size;
   kept = λ u k hu hk e. e;
@@ -368,9 +368,9 @@ not-in : (x : Bool) (l m : ℕ) → (x && not (eqb l m)) ≡ false → (x ≡ fa
 not-in false l m e = inl refl
 not-in true l m e = inr (eqb-true l m (not-false _ e))
 
-module _ {link label : List ℕ} {links : ℕ} {b a : List ℕ} {left next : ℕ} (D : Declared link links) (G : Going link label links b a left next) where
+module _ {link label : List ℕ} {links : ℕ} {b a : List ℕ} {left next : ℕ} (D : Declared link links) (G : Spreading link label links b a left next) where
   pub going-more : {a′ : List ℕ} {l more : ℕ} → l < 64 → among left l ≡ true → Along link label links l a a′ more
-      → Going link label links b a′ (bitAnd left (2 ^ 64 - 1 - 1 * 2 ^ l % 2 ^ 64)) (bitOr next more)
+      → Spreading link label links b a′ (bitAnd left (2 ^ 64 - 1 - 1 * 2 ^ l % 2 ^ 64)) (bitOr next more)
   going-more {a′} {l} {more} hl g A = record {
     size = A .size;
     kept = λ u k hu hk e. A .kept u k hu hk (G .kept u k hu hk e);
@@ -450,7 +450,7 @@ module _ {link label owner : List ℕ} {links nodes : ℕ} (C : Carries link lab
 
 module _ {link label owner : List ℕ} {links nodes v : ℕ} (C : Carries link label owner links nodes) (hv : v < 16) where
   -- what has moved on once stands one move further
-  within-more : {b a : List ℕ} (i : ℕ) → Within link owner v (i + 1) b → Kept b a → Took link label links b a → Within link owner v (i + 1 + 1) a
+  within-more : {b a : List ℕ} (i : ℕ) → Within link owner v (i + 1) b → Kept b a → CarriedOn link label links b a → Within link owner v (i + 1 + 1) a
   unfolding after
   within-more {b} {a} i I K T = record { stood = go }
     where

@@ -7,7 +7,7 @@ use lib.ListN.{getD}
 use Rattle.meaning.specs.Labels.{on}
 use Rattle.lent.specs.Owners.{nextIn, endIn, Agrees, Starts, Ends}
 use Rattle.lent.specs.Nodes.{among, Off}
-use Rattle.questions.specs.Moves.{Comes}
+use Rattle.questions.specs.Moves.{ComesBy}
 
 -- ---- leads
 
@@ -71,4 +71,4 @@ pub record OffWalks (link label : List ℕ) (off : ℕ) : Type 0 where
 
 -- `to` has each node from which the walk of any atom comes to w
 pub record TowardWalks (link label : List ℕ) (w to : ℕ) : Type 0 where
-  pub each : (owner : List ℕ) → Together link label owner → (k : ℕ) → k < 512 → Comes (nextIn owner k) (endIn link) w to
+  pub each : (owner : List ℕ) → Together link label owner → (k : ℕ) → k < 512 → ComesBy (nextIn owner k) (endIn link) w to

@@ -47,8 +47,8 @@ pub record Leaving (link : List ℕ) (links : ℕ) (leaving : List ℕ) : Type 0
   pub only : (u l : ℕ) → u < 16 → l < 64 → among (getD leaving u 0) l ≡ true → l < links
 
 -- the atoms that stood at the source of a link to a node, and are on the link, stand at the node
-abbrev pub Took : List ℕ → List ℕ → ℕ → List ℕ → List ℕ → Type 0
-Took link label links before after = (l k : ℕ) → l < links → k < 512 → endIn link l < 16 → on before (sourceIn link l) k ≡ true → on label l k ≡ true → on after (endIn link l) k ≡ true
+abbrev pub CarriedOn : List ℕ → List ℕ → ℕ → List ℕ → List ℕ → Type 0
+CarriedOn link label links before after = (l k : ℕ) → l < links → k < 512 → endIn link l < 16 → on before (sourceIn link l) k ≡ true → on label l k ≡ true → on after (endIn link l) k ≡ true
 
 -- all links to nodes but those of a set, each of them declared, have carried on all their atoms
 pub record SettledBut (link label : List ℕ) (links but : ℕ) (stand : List ℕ) : Type 0 where
@@ -72,7 +72,7 @@ pub record Round (link label : List ℕ) (links : ℕ) (before after : List ℕ)
   pub size : length after ≡ 144
   pub kept : Kept before after
   pub reached : (owner : List ℕ) (nodes v : ℕ) → Carries link label owner links nodes → Reached link owner v before → Reached link owner v after
-  pub took : Took link label links before after
+  pub took : CarriedOn link label links before after
   pub settled : SettledBut link label links next after
 
 -- each node's row has the atoms whose walks from v come to it

@@ -7,7 +7,7 @@ ghost use Prim.Native.Nat.{ℕ, _+_, _-_, _<_, _≤_};
 ghost use Rattle.meaning.specs.Walk.{at, move, arrive, told, fateIn, comesTo};
 ghost use Rattle.lent.specs.Owners.{ownerIn, nextIn, endIn, Ends};
 ghost use Rattle.lent.specs.Nodes.{among, Off};
-ghost use Rattle.questions.specs.Moves.{led, seen, Below, Comes};
+ghost use Rattle.questions.specs.Moves.{led, seen, Below, ComesBy};
 
 // Where one move leads: to a node, or to an end.
 pub enum Led {
@@ -141,7 +141,7 @@ pub fn comes_to(
     w: u8,
     to: u16,
 ) -> bool
-    requires { ⌜ (atom .0 < 512) × (v < 16) × (n ≤ 16) × Ends (now link) (now owner) × Comes (nextIn (now owner) (atom .0)) (endIn (now link)) w to ⌝ }
+    requires { ⌜ (atom .0 < 512) × (v < 16) × (n ≤ 16) × Ends (now link) (now owner) × ComesBy (nextIn (now owner) (atom .0)) (endIn (now link)) w to ⌝ }
     ensures { λ r. ⌜ r ≡ comesTo (nextIn (now (owner .entry)) (atom .0)) (endIn (now (link .entry))) n v w ⌝ }
 {
     let mut here = v;

@@ -18,7 +18,7 @@ use Rattle.meaning.proofs.atoms.Numbers.{one-place}
 use Rattle.lent.specs.Owners.{ownerIn, via, Agrees}
 use Rattle.lent.proofs.Labelled.{via-none}
 use Rattle.tables.specs.Bits.{Moved}
-use Rattle.tables.specs.Sweep.{Swept, entriesFrom, Wrote, ownerBy, Settled, Ready, SweptAll}
+use Rattle.tables.specs.Sweep.{Swept, entriesFrom, WroteEntries, ownerBy, Settled, Ready, SweptAll}
 
 -- five stores in a row
 pub wrote : (l : List ℕ) (i a b c d e : ℕ) → i + 5 ≤ length l
@@ -33,18 +33,18 @@ wrote l i a b c d e h =
 -- ---- one entry of the owners
 
 -- entry i becomes x, and no other entry changes
-pub record Stored (before after : List ℕ) (i x : ℕ) : Type 0 where
+pub record OneStored (before after : List ℕ) (i x : ℕ) : Type 0 where
   pub long : length after ≡ length before
   pub at : getD after i 0 ≡ x
   pub else : (j : ℕ) → (j ≡ i → ⊥) → getD after j 0 ≡ getD before j 0
 
-set-stored : (l : List ℕ) (i x : ℕ) → i < length l → Stored l (set l i x) i x
+set-stored : (l : List ℕ) (i x : ℕ) → i < length l → OneStored l (set l i x) i x
 set-stored l i x h = record { long = length-set l i x; at = getD-set-same l i x 0 h; else = λ j n. getD-set-other l i j x 0 n }
 
 -- ---- the owners
 
 module _ {number owner₀ owner owner′ : List ℕ} {n v f p : ℕ} {h : ℕ → ℕ} (s : Swept number owner₀ owner n v f p h) (numbers : Numbers number n) (node : v < 16) (from : f ≤ p) (within : p < n) where
-  swept-more : Stored owner owner′ (16 * getD number p 0 + v) (h p) → Swept number owner₀ owner′ n v f (p + 1) h
+  swept-more : OneStored owner owner′ (16 * getD number p 0 + v) (h p) → Swept number owner₀ owner′ n v f (p + 1) h
   swept-more w = record {
     long = w .long ∙ s .long;
     done = λ q a b. done q a b (ℕ-discrete q p);
@@ -77,7 +77,7 @@ moved-bit false true = refl
 moved-bit false false = refl
 
 -- one owner changes, and the atom moves from its link to the new one's, both of which start at the owner's node: the labels agree as before
-module _ {link label label′ owner owner′ : List ℕ} {k v old new : ℕ} (agrees : Agrees link label owner) (moved : Moved label label′ (via old) (via new) k) (stored : Stored owner owner′ (16 * k + v) new)
+module _ {link label label′ owner owner′ : List ℕ} {k v old new : ℕ} (agrees : Agrees link label owner) (moved : Moved label label′ (via old) (via new) k) (stored : OneStored owner owner′ (16 * k + v) new)
     (was : ownerIn owner k v ≡ old) (from : (old ≡ 0 → ⊥) → getD link (via old) 0 / 1024 ≡ v) (to : (new ≡ 0 → ⊥) → getD link (via new) 0 / 1024 ≡ v) where
   agrees-moved : Agrees link label′ owner′
   agrees-moved = record { bits = λ l j hl hj. bits l j hl hj (ℕ-discrete (getD link l 0 / 1024) v) (ℕ-discrete j k) }
@@ -123,19 +123,19 @@ entries-more g h cut number f p from =
     let d : f + (p - f) ≡ p = omega arith in
     rw (e, entriesFrom, d)
 
-wrote-none : (g h : ℕ → ℕ) (cut number : List ℕ) (f : ℕ) (list : List ℕ) → Wrote g h cut number f (f - f) list list 0
+wrote-none : (g h : ℕ → ℕ) (cut number : List ℕ) (f : ℕ) (list : List ℕ) → WroteEntries g h cut number f (f - f) list list 0
 unfolding entriesFrom overwrite
 wrote-none g h cut number f list = let e : f - f ≡ 0 = omega arith in record { words = rw e; count = rw e; few = omega arith }
 
-module _ {g h : ℕ → ℕ} {cut number list list′ : List ℕ} {f p k : ℕ} (w : Wrote g h cut number f (p - f) list list′ k) (from : f ≤ p) where
-  wrote-skip : g p ≡ h p → Wrote g h cut number f (p + 1 - f) list list′ k
+module _ {g h : ℕ → ℕ} {cut number list list′ : List ℕ} {f p k : ℕ} (w : WroteEntries g h cut number f (p - f) list list′ k) (from : f ≤ p) where
+  wrote-skip : g p ≡ h p → WroteEntries g h cut number f (p + 1 - f) list list′ k
   wrote-skip e =
       let d : entriesFrom g h cut number f (p + 1 - f) ≡ entriesFrom g h cut number f (p - f) = entries-more g h cut number f p from ∙ rw (eq-eqb (g p) (h p) e) (append-nil _) in
       record { words = rw d (w .words); count = rw d (w .count); few = omega (arith, w .few) }
 
   wrote-more : {list″ : List ℕ} → (g p ≡ h p → ⊥)
       → list″ ≡ take (5 * k) list′ ++ (getD number p 0 ∷ getD cut p 0 ∷ getD cut (p + 1) 0 ∷ via (g p) ∷ via (h p) ∷ []) ++ drop (5 * k + 5) list′
-      → Wrote g h cut number f (p + 1 - f) list list″ (k + 1)
+      → WroteEntries g h cut number f (p + 1 - f) list list″ (k + 1)
   wrote-more {list″} n e =
       let x : List ℕ = getD number p 0 ∷ getD cut p 0 ∷ getD cut (p + 1) 0 ∷ via (g p) ∷ via (h p) ∷ [] in
       let d : entriesFrom g h cut number f (p + 1 - f) ≡ entriesFrom g h cut number f (p - f) ++ x = rw (ne-eqb (g p) (h p) n) at (entries-more g h cut number f p from) in
@@ -190,7 +190,7 @@ module _ {cut number label₀ label owner₀ owner list₀ list : List ℕ} {n v
       → SweptAll cut number n v f (p + 1) (ownerBy owner₀ number v) h label₀ label′ owner₀ owner′ list₀ list′ r
   swept-settled {old} {new} {r} {label′} {owner′} {list′} o e s = go (rw (o, e) at s) (ℕ-discrete (ownerBy owner₀ number v p) (h p))
     where
-      more-owners : {after : List ℕ} → Stored owner after (16 * getD number p 0 + v) (h p) → Swept number owner₀ after n v f (p + 1) h
+      more-owners : {after : List ℕ} → OneStored owner after (16 * getD number p 0 + v) (h p) → Swept number owner₀ after n v f (p + 1) h
       more-owners w = swept-more (swept .owners) (ready .numbers) (ready .node) from (omega (arith, ready .within)) w
 
       go : Settled cut number p v (ownerBy owner₀ number v p) (h p) k label label′ owner owner′ list list′ r → Dec (ownerBy owner₀ number v p ≡ h p)
@@ -204,7 +204,7 @@ module _ {cut number label₀ label owner₀ owner list₀ list : List ℕ} {n v
           }
       go u (no d) =
           let i : 16 * getD number p 0 + v < length owner = omega (arith, small ready below, ready .node, ready .size, swept .owners .long) in
-          let w : Stored owner owner′ (16 * getD number p 0 + v) (h p) = rw (u .owners d) (set-stored owner (16 * getD number p 0 + v) (h p) i) in
+          let w : OneStored owner owner′ (16 * getD number p 0 + v) (h p) = rw (u .owners d) (set-stored owner (16 * getD number p 0 + v) (h p) i) in
           record {
             owners = more-owners w;
             labels = λ link agrees starts at. agrees-moved (swept .labels link agrees starts (λ q a b. at q a (omega arith))) (u .labels d) w kept

@@ -32,7 +32,7 @@ entriesFrom g h cut number f (suc d) =
     (getD number (f + d) 0 ∷ getD cut (f + d) 0 ∷ getD cut (f + d + 1) 0 ∷ via (g (f + d)) ∷ via (h (f + d)) ∷ [])
 
 -- the list has the entries of the changed places from f to below f + d, k of them
-pub record Wrote (g h : ℕ → ℕ) (cut number : List ℕ) (f d : ℕ) (list list′ : List ℕ) (k : ℕ) : Type 0 where
+pub record WroteEntries (g h : ℕ → ℕ) (cut number : List ℕ) (f d : ℕ) (list list′ : List ℕ) (k : ℕ) : Type 0 where
   pub words : list′ ≡ overwrite (entriesFrom g h cut number f d) list
   pub count : length (entriesFrom g h cut number f d) ≡ 5 * k
   pub few : k ≤ d
@@ -83,4 +83,4 @@ pub record SweptAll (cut number : List ℕ) (n v f t : ℕ) (g h : ℕ → ℕ) 
   pub owners : Swept number owner owner′ n v f t h
   pub labels : (link : List ℕ) → Agrees link label owner → Starts link owner
       → ((q : ℕ) → f ≤ q → q < t → (h q ≡ 0 → ⊥) → getD link (via (h q)) 0 / 1024 ≡ v) → Agrees link label′ owner′
-  pub words : Wrote g h cut number f (t - f) list list′ r
+  pub words : WroteEntries g h cut number f (t - f) list list′ r

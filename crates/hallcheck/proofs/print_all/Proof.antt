@@ -5,7 +5,7 @@ use Prim.Native.Nat.{_-_}
 use native.Mathlib.Omega.{arith}
 use lib.ListN.{length}
 use Rattle.meaning.specs.Box.{stateOf}
-use Rattle.hallcheck.proofs.Going.{Going, listed, goes}
+use Rattle.hallcheck.proofs.Going.{Between, listed, goes}
 use Rattle.hallcheck.proofs.print_all.Statement.{statement}
 use Rattle.hallcheck.proofs.print_all.Tie as tie
 use Rattle.hallcheck.proofs.print_all.Reads as reads
@@ -16,7 +16,7 @@ use Rattle.hallcheck.proofs.write_out.Reads as write-out-reads
 
 abbrev Inv-loop : tie.InvT-loop
 Inv-loop bytes link₀ rule₀ cut₀ number₀ label₀ owner₀ list₀ out₀ h₀ at₀ place₀ end₀ link rule cut number label owner list out h at place end =
-    Going bytes (stateOf h link rule cut number) label owner list out at place end × (length list ≡ length list₀) × (length out ≡ length out₀)
+    Between bytes (stateOf h link rule cut number) label owner list out at place end × (length list ≡ length list₀) × (length out ≡ length out₀)
 
 abbrev μ-loop : tie.MeasureT-loop
 μ-loop bytes link₀ rule₀ cut₀ number₀ label₀ owner₀ list₀ out₀ h₀ at₀ place₀ end₀ link rule cut number label owner list out h at place end =

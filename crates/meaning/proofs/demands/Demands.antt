@@ -36,15 +36,15 @@ use Rattle.meaning.proofs.document.Runs.{Stops, Runs}
 -- ---- demand 1
 
 -- a check: its number, and when it refuses
-pub record Check : Type 1 where
+pub record Reason : Type 1 where
   pub number : ℕ
   pub refuses : Type 0
 
-abbrev pub check : ℕ → Type 0 → Check
+abbrev pub check : ℕ → Type 0 → Reason
 check k P = record { number = k; refuses = P }
 
 -- the outcome of checks in their order: the number of the first that refuses, or none
-unfoldable pub Outcome : List Check → Option ℕ → Type 0
+unfoldable pub Outcome : List Reason → Option ℕ → Type 0
 Outcome [] o = o ≡ none
 Outcome (c ∷ cs) o = (c .refuses × (o ≡ some (c .number))) ⊎ ((c .refuses → ⊥) × Outcome cs o)
 
@@ -62,7 +62,7 @@ unfoldable pub innerWith : State → ℕ → ℕ → ℕ
 innerWith m p n = countBelow top (λ b. ltb 0 b && (isCut (m .cut) (m .atoms) b || eqb b p || eqb b (p + 2 ^ (32 - n))))
 
 -- THE TABLE: "hall 4; link 6, 4 (source), 7, 4 (end); insert 8, 9, 5, 11, 12, 13; remove 8, 10; questions 4, A before B"
-unfoldable pub checksOf : State → Record → List Check
+unfoldable pub checksOf : State → Record → List Reason
 checksOf m (hall n) = check 4 ((n ≡ 0) ⊎ (16 < n)) ∷ []
 checksOf m (link s c e) =
     check 6 (64 ≤ m .links)
@@ -86,7 +86,7 @@ checksOf m (reach v w) = check 4 (m .nodes ≤ v) ∷ check 4 (m .nodes ≤ w) �
 checksOf m (tally v) = check 4 (m .nodes ≤ v) ∷ []
 
 -- "0, 1, 2, 3 for every kind ("end" comes after 0), then" the kind's own; the lent list has room words, and an entry takes 5
-unfoldable pub checks : State → ℕ → List ℕ → List Check
+unfoldable pub checks : State → ℕ → List ℕ → List Reason
 checks m room [] = check 0 (room < 5 * 512) ∷ []
 checks m room (kind ∷ body) =
     check 0 (room < 5 * 512)

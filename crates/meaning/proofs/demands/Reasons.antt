@@ -28,7 +28,7 @@ use Rattle.meaning.proofs.records.Fields.{Fits, fits}
 use Rattle.meaning.proofs.base.Search.{any-true, any-some, and-both, or-neither}
 use Rattle.meaning.proofs.sound.Kept.{sound}
 use Rattle.meaning.proofs.rules.Covers.{covers-is, overlap-is}
-use Rattle.meaning.proofs.demands.Demands.{Check, check, Outcome, Ties, innerWith, checksOf, checks, refusedBy}
+use Rattle.meaning.proofs.demands.Demands.{Reason, check, Outcome, Ties, innerWith, checksOf, checks, refusedBy}
 use Rattle.meaning.proofs.demands.Thirteen.{inner-count}
 
 -- ---- tests
@@ -67,14 +67,14 @@ unfolding Outcome
 none-left = refl
 
 -- a check that asks P by the test t, and then the others
-module _ (P : Type 0) (cs : List Check) where
+module _ (P : Type 0) (cs : List Reason) where
   first : (t : Bool) (k : ℕ) (o : Option ℕ) → Test t P → (t ≡ false → Outcome cs o) → Outcome (check k P ∷ cs) (when t k o)
   unfolding Outcome when
   first true k o h f = inl (h .0 refl, refl)
   first false k o h f = inr (λ x. true≢false (sym (h .1 x)), f refl)
 
 -- checks have one outcome
-pub outcome-once : (cs : List Check) (o p : Option ℕ) → Outcome cs o → Outcome cs p → o ≡ p
+pub outcome-once : (cs : List Reason) (o p : Option ℕ) → Outcome cs o → Outcome cs p → o ≡ p
 unfolding Outcome
 outcome-once [] o p e f = e ∙ sym f
 outcome-once (c ∷ cs) o p (inl x) (inl y) = x .1 ∙ sym (y .1)

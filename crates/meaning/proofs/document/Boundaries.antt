@@ -30,7 +30,7 @@ use Rattle.meaning.proofs.atoms.Splits.{within, is-boundary, boundary-i
 use Rattle.meaning.proofs.records.Checks.{when-none, Clear, clear}
 use Rattle.meaning.proofs.records.Fields.{Sized, Fits}
 use Rattle.meaning.proofs.rules.Words.{lower-of, upper-of}
-use Rattle.meaning.proofs.sound.Kept.{rule-fits, Room, room-for, room-lower, keeps-lower, missing, count-lower, room-upper, ends-keep, has-lower, has-upper, sound}
+use Rattle.meaning.proofs.sound.Kept.{rule-fits, RoomForEnds, room-for, room-lower, keeps-lower, missing, count-lower, room-upper, ends-keep, has-lower, has-upper, sound}
 use Rattle.meaning.proofs.records.Steps.{Stepped, short, ended, unread, turned, took, reads-fit, stepped}
 
 -- a split makes b a boundary and no other number
@@ -66,7 +66,7 @@ module _ (m : State) (S : Sound m) (r l p n t : ℕ) (F : Sized l p t) (C : Clea
   abbrev N : State
   N = inserted m r w
 
-  R : Room m w
+  R : RoomForEnds m w
   R = room-for m S F C
 
   from-is : lower w ≡ p

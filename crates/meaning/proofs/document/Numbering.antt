@@ -28,7 +28,7 @@ use Rattle.meaning.proofs.records.Fields.{Sized, Fits}
 use Rattle.meaning.proofs.rules.Words.{lower-of, upper-of}
 use Rattle.meaning.proofs.sound.Sound.{came-keeps}
 use Rattle.meaning.proofs.records.Checks.{clear}
-use Rattle.meaning.proofs.sound.Kept.{rule-fits, Room, room-for, room-lower, keeps-lower, count-lower, room-upper, sound}
+use Rattle.meaning.proofs.sound.Kept.{rule-fits, RoomForEnds, room-for, room-lower, keeps-lower, count-lower, room-upper, sound}
 use Rattle.meaning.proofs.document.Atoms.{InAtom, atom-of, place-is, places-agree}
 use Rattle.meaning.proofs.document.Boundaries.{same-cut}
 
@@ -149,7 +149,7 @@ pub record InsertNumbers (m left : State) (from to : ℕ) : Type 0 where
   pub upper-takes : isCut (m .cut) (m .atoms) to ≡ false → InAtom left (m .atoms + pick (isCut (m .cut) (m .atoms) from) 0 1) to
   pub others-keep : (b k : ℕ) → isCut (m .cut) (m .atoms) b ≡ true → InAtom m k b → InAtom left k b
 
-module _ (m : State) (S : Sound m) (w : ℕ) (R : Room m w) (same : isCut (withCut m (lower w) .cut) (withCut m (lower w) .atoms) (upper w) ≡ isCut (m .cut) (m .atoms) (upper w)) where
+module _ (m : State) (S : Sound m) (w : ℕ) (R : RoomForEnds m w) (same : isCut (withCut m (lower w) .cut) (withCut m (lower w) .atoms) (upper w) ≡ isCut (m .cut) (m .atoms) (upper w)) where
   abbrev M : State
   M = withCut m (lower w)
 

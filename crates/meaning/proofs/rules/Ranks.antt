@@ -45,21 +45,21 @@ module _ (E : ℕ → Bool) (rank : ℕ → ℕ) (w i : ℕ) where
   lower-by x y p q e n h = keep-lower e n (omega arith)
 
 -- what w is among the first k rules
-pub data Outcome (E : ℕ → Bool) (rank : ℕ → ℕ) (k w : ℕ) : Type 0 where
-  nobody : w ≡ 256 → ((i : ℕ) → i < k → E i ≡ true → ⊥) → Outcome E rank k w
-  somebody : w < k → E w ≡ true → ((i : ℕ) → i < k → E i ≡ true → rank i ≤ rank w) → Outcome E rank k w
+pub data Foremost (E : ℕ → Bool) (rank : ℕ → ℕ) (k w : ℕ) : Type 0 where
+  nobody : w ≡ 256 → ((i : ℕ) → i < k → E i ≡ true → ⊥) → Foremost E rank k w
+  somebody : w < k → E w ≡ true → ((i : ℕ) → i < k → E i ≡ true → rank i ≤ rank w) → Foremost E rank k w
 
 up-to : (P : ℕ → Type 0) (k : ℕ) → ((i : ℕ) → i < k → P i) → P k → (i : ℕ) → i < suc k → P i
 up-to P k f h i l = ⊎-elim (λ e. subst⁻¹ P e h) (f i) (eq-or-lt-of-le (le-of-suc-le-suc l))
 
 module _ (E : ℕ → Bool) (rank : ℕ → ℕ) where
-  step : (k w : ℕ) → k < 256 → Outcome E rank k w → Outcome E rank (suc k) (better E rank w k)
+  step : (k w : ℕ) → k < 256 → Foremost E rank k w → Foremost E rank (suc k) (better E rank w k)
   step k w l o = go (E k) refl o
     where
-      rest : (w′ : ℕ) → w′ ≡ better E rank w k → Outcome E rank (suc k) w′ → Outcome E rank (suc k) (better E rank w k)
-      rest w′ e p = subst (Outcome E rank (suc k)) e p
+      rest : (w′ : ℕ) → w′ ≡ better E rank w k → Foremost E rank (suc k) w′ → Foremost E rank (suc k) (better E rank w k)
+      rest w′ e p = subst (Foremost E rank (suc k)) e p
 
-      go : (t : Bool) → E k ≡ t → Outcome E rank k w → Outcome E rank (suc k) (better E rank w k)
+      go : (t : Bool) → E k ≡ t → Foremost E rank k w → Foremost E rank (suc k) (better E rank w k)
       go false e (nobody n f) = rest w (keep-out E rank w k e) (nobody n (up-to _ k f (λ d. true≢false (sym d ∙ e))))
       go false e (somebody a b f) = rest w (keep-out E rank w k e) (somebody (omega arith) b (up-to _ k f (λ d. absurd (true≢false (sym d ∙ e)))))
       go true e (nobody n f) = rest k (take-first E rank w k e n) (somebody (omega arith) e (up-to _ k (λ i h d. absurd (f i h d)) (λ d. omega arith)))
@@ -68,7 +68,7 @@ module _ (E : ℕ → Bool) (rank : ℕ → ℕ) where
           (λ (g : rank w < rank k). rest k (take-higher E rank w k e (λ z. omega arith) g) (somebody (omega arith) e (up-to _ k (λ i h d. omega (arith, f i h d)) (λ d. omega arith))))
           (le-or-lt (rank k) (rank w))
 
-  pub outcome : (k : ℕ) → k ≤ 256 → Outcome E rank k (best E rank k)
+  pub outcome : (k : ℕ) → k ≤ 256 → Foremost E rank k (best E rank k)
   unfolding best
   outcome zero l = nobody refl (λ i h. absurd (not-suc-le-zero h))
   outcome (suc k) l = step k (best E rank k) l (outcome k (omega arith))
@@ -78,7 +78,7 @@ module _ (E : ℕ → Bool) (rank : ℕ → ℕ) where
       → ((best E rank n ≡ 256) × ((i : ℕ) → i < n → E i ≡ true → ⊥)) ⊎ Wins E rank n (best E rank n)
   winner-law n l d = go (outcome n l)
     where
-      go : Outcome E rank n (best E rank n) → ((best E rank n ≡ 256) × ((i : ℕ) → i < n → E i ≡ true → ⊥)) ⊎ Wins E rank n (best E rank n)
+      go : Foremost E rank n (best E rank n) → ((best E rank n ≡ 256) × ((i : ℕ) → i < n → E i ≡ true → ⊥)) ⊎ Wins E rank n (best E rank n)
       go (nobody e f) = inl (e, f)
       go (somebody a b f) = inr (record {
         within = a;

@@ -222,19 +222,19 @@ pub rule-fits : {m : State} {r l p n t : ℕ} → Sound m → Sized l p t → Cl
 rule-fits S F C = record { link = omega (arith, C .declared, S .few); prefix = F .prefix; long = C .long; priority = F .priority }
 
 -- the ends of word w lie in the range, and there is room for a boundary at each
-pub record Room (m : State) (w : ℕ) : Type 0 where
+pub record RoomForEnds (m : State) (w : ℕ) : Type 0 where
   pub lower-top : lower w ≤ top
   pub upper-top : upper w ≤ top
   pub both : m .atoms + added m w ≤ 512
 
-pub room-for : (m : State) → Sound m → {r l p n t : ℕ} → Sized l p t → Clear m r l p n t → Room m (ruleWord l p n t)
+pub room-for : (m : State) → Sound m → {r l p n t : ℕ} → Sized l p t → Clear m r l p n t → RoomForEnds m (ruleWord l p n t)
 room-for m S {r} {l} {p} {n} {t} F C = record {
   lower-top = omega (arith, lower-of (rule-fits S F C), F .prefix);
   upper-top = omega (arith, upper-of (rule-fits S F C), within-top p n (F .prefix) (C .long) (C .flush));
   both = C .room;
 }
 
-module _ (m : State) (S : Sound m) (w : ℕ) (R : Room m w) where
+module _ (m : State) (S : Sound m) (w : ℕ) (R : RoomForEnds m w) where
   pub room-lower : isCut (m .cut) (m .atoms) (lower w) ≡ false → m .atoms < 512
   unfolding added
   room-lower e = omega (arith, rw e at (R .both))

@@ -5,12 +5,12 @@ use mathlib.Core.Option.{Option}
 use Prim.Native.Nat.{ℕ, zero, suc, _+_, _-_, _≤_, _<_}
 use native.Mathlib.Decide.{ℕ-discrete}
 use native.Mathlib.Omega.{arith}
-use Rattle.meaning.specs.Walk.{Place, at, move, after}
+use Rattle.meaning.specs.Walk.{Position, at, move, after}
 use Rattle.meaning.proofs.walk.Walks.{Never, Closed, Reaches, OnCircle, after-add, after-suc, repeats, below, meets}
 
 module _ (next : ℕ → Option ℕ) (end : ℕ → ℕ) where
   -- k moves on from where m moves lead
-  on : (p : Place) (m k t w : ℕ) → m + k ≡ t → after next end m p ≡ at w → after next end t p ≡ after next end k (at w)
+  on : (p : Position) (m k t w : ℕ) → m + k ≡ t → after next end m p ≡ at w → after next end t p ≡ after next end k (at w)
   on p m k t w e f = rw (← e, after-add, f)
 
   -- the moves of a circle lead back from each of its places

@@ -8,7 +8,7 @@ use native.Mathlib.Omega.{arith}
 use lib.Dec.{ltb}
 use borrow.Author.Tests.{ltb-true, ltb-false, lt-ltb, le-ltb}
 use Rattle.meaning.specs.Search.{pick}
-use Rattle.meaning.specs.Walk.{Place, at, out, lost, arrive, leave, move}
+use Rattle.meaning.specs.Walk.{Position, at, out, lost, arrive, leave, move}
 use Rattle.meaning.proofs.base.Order.{clash}
 
 module _ (next : ℕ → Option ℕ) (end : ℕ → ℕ) (v : ℕ) where
@@ -24,7 +24,7 @@ module _ (next : ℕ → Option ℕ) (end : ℕ → ℕ) (v : ℕ) where
   abbrev pub IsLostAt : Type 0
   IsLostAt = (next v ≡ none) ⊎ ((l : ℕ) × (next v ≡ some l) × (512 ≤ end l))
 
-  data Moved : Place → Type 0 where
+  data Moved : Position → Type 0 where
     to : (l : ℕ) → next v ≡ some l → end l < 256 → Moved (at (end l))
     by : (l : ℕ) → next v ≡ some l → 256 ≤ end l → end l < 512 → Moved (out l)
     off : IsLostAt → Moved (lost v)
@@ -47,7 +47,7 @@ module _ (next : ℕ → Option ℕ) (end : ℕ → ℕ) (v : ℕ) where
   unfolding move leave arrive
   goes-to w = (there _ moved, back)
     where
-      there : (p : Place) → Moved p → p ≡ at w → GoesTo w
+      there : (p : Position) → Moved p → p ≡ at w → GoesTo w
       there p (to l e h) f = let q : end l ≡ w = cc in (l, e, q, omega arith)
       there p (by l e h g) f = clash cc
       there p (off x) f = clash cc
@@ -59,7 +59,7 @@ module _ (next : ℕ → Option ℕ) (end : ℕ → ℕ) (v : ℕ) where
   unfolding move leave arrive
   leaves-by k = (there _ moved, back)
     where
-      there : (p : Place) → Moved p → p ≡ out k → LeavesBy k
+      there : (p : Position) → Moved p → p ≡ out k → LeavesBy k
       there p (to l e h) f = clash cc
       there p (by l e h g) f = let q : l ≡ k = cc in (e ∙ ap some q, rw q at h, rw q at g)
       there p (off x) f = clash cc
@@ -71,7 +71,7 @@ module _ (next : ℕ → Option ℕ) (end : ℕ → ℕ) (v : ℕ) where
   unfolding move leave arrive
   lost-at = (there _ moved, back)
     where
-      there : (p : Place) → Moved p → p ≡ lost v → IsLostAt
+      there : (p : Position) → Moved p → p ≡ lost v → IsLostAt
       there p (to l e h) f = clash cc
       there p (by l e h g) f = clash cc
       there p (off x) f = x
@@ -84,7 +84,7 @@ module _ (next : ℕ → Option ℕ) (end : ℕ → ℕ) (v : ℕ) where
   pub lost-here : (w : ℕ) → move next end (at v) ≡ lost w → w ≡ v
   lost-here w = go _ moved
     where
-      go : (p : Place) → Moved p → p ≡ lost w → w ≡ v
+      go : (p : Position) → Moved p → p ≡ lost w → w ≡ v
       go p (to l e h) f = clash cc
       go p (by l e h g) f = clash cc
       go p (off x) f = cc

@@ -8,18 +8,18 @@ use native.Mathlib.Omega.{arith}
 use native.Mathlib.Decide.{decLt}
 use borrow.Author.Tests.{eqb-true, eq-eqb}
 use Rattle.meaning.specs.Search.{anyBelow}
-use Rattle.meaning.specs.Walk.{Place, at, out, lost, after, stands, standsAt, goesRound, onCircle, comesTo}
+use Rattle.meaning.specs.Walk.{Position, at, out, lost, after, stands, standsAt, goesRound, onCircle, comesTo}
 use Rattle.meaning.proofs.base.Search.{any-true, any-some}
 use Rattle.meaning.proofs.walk.Walks.{Going, Never, Closed, OnCircle, never, Reaches, going-le, again, meets}
 use Rattle.meaning.proofs.walk.Circles.{circle-short}
 
-pub stands-at : (v : ℕ) (p : Place) → standsAt v p ≡ true → p ≡ at v
+pub stands-at : (v : ℕ) (p : Position) → standsAt v p ≡ true → p ≡ at v
 unfolding standsAt
 stands-at v (at w) e = ap at (eqb-true w v e)
 stands-at v (out l) e = absurd (true≢false (sym e))
 stands-at v (lost w) e = absurd (true≢false (sym e))
 
-pub at-stands : (v : ℕ) (p : Place) → p ≡ at v → standsAt v p ≡ true
+pub at-stands : (v : ℕ) (p : Position) → p ≡ at v → standsAt v p ≡ true
 unfolding standsAt
 at-stands v p e = ap (standsAt v) e ∙ eq-eqb v v refl
 
@@ -29,7 +29,7 @@ module _ (next : ℕ → Option ℕ) (end : ℕ → ℕ) (n : ℕ) (closed : Clo
   unfolding goesRound stands
   round-is = (λ e. never next end n closed v h (going (after next end n (at v)) refl e), λ f. ap stands (f n .1))
     where
-      going : (p : Place) → after next end n (at v) ≡ p → stands p ≡ true → Going next end n (at v)
+      going : (p : Position) → after next end n (at v) ≡ p → stands p ≡ true → Going next end n (at v)
       going (at w) e f = (w, e)
       going (out l) e f = absurd (true≢false (sym f))
       going (lost w) e f = absurd (true≢false (sym f))

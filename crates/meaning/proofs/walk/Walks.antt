@@ -9,18 +9,18 @@ use native.Mathlib.Numerals.{add-one, sub-one}
 use native.Mathlib.Omega.{arith}
 use Rattle.meaning.specs.declared.Fate.{Fate}
 use Rattle.meaning.specs.declared.Fate.the-variants.{Out, Lost, Round}
-use Rattle.meaning.specs.Walk.{Place, at, out, lost, leave, move, after, told, fateIn}
+use Rattle.meaning.specs.Walk.{Position, at, out, lost, leave, move, after, told, fateIn}
 use Rattle.meaning.proofs.walk.Moves.{lost-here}
 use Rattle.meaning.proofs.base.Pigeon.{pigeon}
 use Rattle.meaning.proofs.base.Order.{clash}
 
 module _ (next : ℕ → Option ℕ) (end : ℕ → ℕ) where
   -- the walk from p is still going after k moves: the packet stands at a node
-  abbrev pub Going : ℕ → Place → Type 0
+  abbrev pub Going : ℕ → Position → Type 0
   Going k p = (w : ℕ) × (after next end k p ≡ at w)
 
   -- the walk from p never ends
-  abbrev pub Never : Place → Type 0
+  abbrev pub Never : Position → Type 0
   Never p = (k : ℕ) → Going k p
 
   -- what becomes of a packet that stands at v: the link or the node, and the moves made
@@ -41,13 +41,13 @@ module _ (next : ℕ → Option ℕ) (end : ℕ → ℕ) where
   abbrev pub OnCircle : ℕ → Type 0
   OnCircle v = (k : ℕ) × (0 < k) × (after next end k (at v) ≡ at v)
 
-nodeOf : Place → ℕ
+nodeOf : Position → ℕ
 nodeOf (at v) = v
 nodeOf (out l) = 0
 nodeOf (lost v) = 0
 
 -- the walk from p stands at one node after i moves and again after j, at most n
-pub record Meets (next : ℕ → Option ℕ) (end : ℕ → ℕ) (p : Place) (n : ℕ) : Type 0 where
+pub record Meets (next : ℕ → Option ℕ) (end : ℕ → ℕ) (p : Position) (n : ℕ) : Type 0 where
   pub i : ℕ
   pub j : ℕ
   pub node : ℕ
@@ -57,7 +57,7 @@ pub record Meets (next : ℕ → Option ℕ) (end : ℕ → ℕ) (p : Place) (n 
   pub again : after next end j p ≡ at node
 
 module _ (next : ℕ → Option ℕ) (end : ℕ → ℕ) where
-  pub after-add : (a b : ℕ) (p : Place) → after next end (a + b) p ≡ after next end b (after next end a p)
+  pub after-add : (a b : ℕ) (p : Position) → after next end (a + b) p ≡ after next end b (after next end a p)
   unfolding after
   after-add zero b p = rw zero-add
   after-add (suc a) b p = rw suc-add (after-add a b (move next end p))
@@ -73,17 +73,17 @@ module _ (next : ℕ → Option ℕ) (end : ℕ → ℕ) where
   lost-stays zero v = refl
   lost-stays (suc k) v = lost-stays k v
 
-  pub after-suc : (k : ℕ) (p : Place) → after next end (suc k) p ≡ move next end (after next end k p)
+  pub after-suc : (k : ℕ) (p : Position) → after next end (suc k) p ≡ move next end (after next end k p)
   unfolding after
   after-suc zero p = refl
   after-suc (suc k) p = after-suc k (move next end p)
 
-  module _ (p : Place) where
+  module _ (p : Position) where
     pub going-down : (k : ℕ) → Going next end (suc k) p → Going next end k p
     unfolding move
     going-down k g = go (after next end k p) refl
       where
-        go : (q : Place) → after next end k p ≡ q → Going next end k p
+        go : (q : Position) → after next end k p ≡ q → Going next end k p
         go (at w) e = (w, e)
         go (out l) e = clash (cc (after-suc k p, ap (move next end) e, g .1))
         go (lost l) e = clash (cc (after-suc k p, ap (move next end) e, g .1))
@@ -146,7 +146,7 @@ module _ (next : ℕ → Option ℕ) (end : ℕ → ℕ) where
       go (λ w f. fate-in start k (suc h) w f (λ g. r (rw x at g))) (move next end (at v)) refl
     where
       go : ((w : ℕ) → after next end (suc h) (at start) ≡ at w → IsFate next end start (fateIn next end k (suc h) w))
-          → (q : Place) → move next end (at v) ≡ q → IsFate next end start (told (fateIn next end k (suc h)) h q)
+          → (q : Position) → move next end (at v) ≡ q → IsFate next end start (told (fateIn next end k (suc h)) h q)
       go ih (at w) f = ih w (cc (after-suc h (at start), ap (move next end) e, f))
       go ih (out l) f = (v, e, f)
       go ih (lost w) f = let s = lost-here next end v w f in (cc, cc)
@@ -168,7 +168,7 @@ module _ (next : ℕ → Option ℕ) (end : ℕ → ℕ) where
 
   -- one node has one fate
   module _ (v : ℕ) where
-    stops : (h : ℕ) (q : Place) → ((w : ℕ) → q ≡ at w → ⊥) → (w : ℕ) → after next end h (at v) ≡ at w → move next end (at w) ≡ q → ¬ Going next end (suc h) (at v)
+    stops : (h : ℕ) (q : Position) → ((w : ℕ) → q ≡ at w → ⊥) → (w : ℕ) → after next end h (at v) ≡ at w → move next end (at w) ≡ q → ¬ Going next end (suc h) (at v)
     stops h q f w e m g = f (g .0) (cc (after-suc h (at v), ap (move next end) e, g .1))
 
     same-hops : (h k : ℕ) → Going next end h (at v) → ¬ Going next end (suc h) (at v) → Going next end k (at v) → ¬ Going next end (suc k) (at v) → h ≡ k

@@ -14,7 +14,7 @@ use Rattle.lent.specs.Owners.{nextIn, endIn}
 use Rattle.meaning.proofs.base.Order.{le-or-lt}
 use Rattle.lent.specs.Nodes.{among, Off}
 use Rattle.lent.proofs.Questions.{linksAt, NoCircle, small-atom, ends-of, loop-none, loop-is}
-use Rattle.questions.specs.Moves.{seen, Below, Within}
+use Rattle.questions.specs.Moves.{seen, Below, Included}
 use Rattle.questions.proofs.Leads.{together, no-loop}
 use Rattle.questions.proofs.ask.find_loop.Statement.{statement}
 use Rattle.questions.proofs.ask.find_loop.Tie as tie
@@ -36,7 +36,7 @@ clear : (next : ℕ → Option ℕ) (end : ℕ → ℕ) (n off v : ℕ) → Off 
 clear next end n off v F b u l = F .none-on u (b u l)
 
 -- where v has joined them, the lowest node that is none of them is above v
-above : (off more v r : ℕ) → v < 16 → Below off v → (among more v ≡ true) → Within off more → (r < 16 → among more r ≡ false) → v < r
+above : (off more v r : ℕ) → v < 16 → Below off v → (among more v ≡ true) → Included off more → (r < 16 → among more r ≡ false) → v < r
 above off more v r h b e w f = ⊎-elim (λ (l : r ≤ v). absurd (true≢false (sym (go (eq-or-lt-of-le l)) ∙ f (omega arith)))) (λ (l : v < r). l) (le-or-lt r v)
   where
     go : (r ≡ v) ⊎ (r < v) → among more r ≡ true

@@ -4,13 +4,13 @@ use Prim.Native.Nat.{_-_, _*_, _%_, _^_, _<_}
 use native.Mathlib.Omega.{arith}
 use lib.Bits.{bitAnd}
 use lib.Count.{trailingZeros, trailing-le}
-use Rattle.questions.proofs.Standing.{Going, going-start, going-more, going-end, lowest-among, without-less, none-left}
+use Rattle.questions.proofs.Standing.{Spreading, going-start, going-more, going-end, lowest-among, without-less, none-left}
 use borrow.Author.Needs.{needs}
 use Rattle.questions.proofs.stand.spread_once.Statement.{statement}
 use Rattle.questions.proofs.stand.spread_once.Tie as tie
 
 abbrev Inv-loop : tie.InvT-loop
-Inv-loop link label links leaving stand₀ from left₀ next₀ l₀ stand left next l = (l ≡ trailingZeros 64 left) × Going link label links stand₀ stand left next
+Inv-loop link label links leaving stand₀ from left₀ next₀ l₀ stand left next l = (l ≡ trailingZeros 64 left) × Spreading link label links stand₀ stand left next
 
 abbrev μ-loop : tie.MeasureT-loop
 μ-loop link label links leaving stand₀ from left₀ next₀ l₀ stand left next l = left

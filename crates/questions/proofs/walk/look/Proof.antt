@@ -12,22 +12,22 @@ use Rattle.meaning.specs.Walk.{at, after, onCircle}
 use Rattle.lent.specs.Owners.{nextIn, endIn}
 use Rattle.lent.specs.Nodes.{among}
 use Rattle.lent.proofs.Walking.{in-either, in-new, step-to, NotBack, back-now, not-back, no-circle, none-below, Trail, trail-start, trail-here, trail-on, trail-off}
-use Rattle.questions.specs.Moves.{led, seen, Within}
+use Rattle.questions.specs.Moves.{led, seen, Included}
 use Rattle.questions.proofs.walk.look.Statement.{statement}
 use Rattle.questions.proofs.walk.look.Tie as tie
 
 abbrev Inv-loop : tie.InvT-loop
-Inv-loop link owner atom n v off here₀ passed₀ i₀ here passed i = (i ≤ n) × (here < 16) × (after (nextIn owner (atom .0)) (endIn link) i (at v) ≡ at here) × NotBack (nextIn owner (atom .0)) (endIn link) v i × Trail (nextIn owner (atom .0)) (endIn link) n passed here × ((among passed v ≡ true) ⊎ (here ≡ v)) × Within off passed
+Inv-loop link owner atom n v off here₀ passed₀ i₀ here passed i = (i ≤ n) × (here < 16) × (after (nextIn owner (atom .0)) (endIn link) i (at v) ≡ at here) × NotBack (nextIn owner (atom .0)) (endIn link) v i × Trail (nextIn owner (atom .0)) (endIn link) n passed here × ((among passed v ≡ true) ⊎ (here ≡ v)) × Included off passed
 
 abbrev μ-loop : tie.MeasureT-loop
 μ-loop link owner atom n v off here₀ passed₀ i₀ here passed i = n - i
 
 -- a set that node u has joined has v, which it had or which is u, and what it had
-joined : (off nodes u v : ℕ) → u < 16 → (among nodes v ≡ true) ⊎ (u ≡ v) → Within off nodes
-    → (among (bitOr nodes (1 * 2 ^ u % 65536)) v ≡ true) × Within off (bitOr nodes (1 * 2 ^ u % 65536))
+joined : (off nodes u v : ℕ) → u < 16 → (among nodes v ≡ true) ⊎ (u ≡ v) → Included off nodes
+    → (among (bitOr nodes (1 * 2 ^ u % 65536)) v ≡ true) × Included off (bitOr nodes (1 * 2 ^ u % 65536))
 joined off nodes u v h e w =
     let all : ℕ = bitOr nodes (1 * 2 ^ u % 65536) in
-    let more : Within nodes all = in-either nodes (1 * 2 ^ u % 65536) in
+    let more : Included nodes all = in-either nodes (1 * 2 ^ u % 65536) in
     (⊎-elim (more v) (λ (q : u ≡ v). sym (ap (among all) q) ∙ in-new nodes u h) e, λ x f. more x (w x f))
 
 loop-holds : tie.Need-loop-holds Inv-loop μ-loop

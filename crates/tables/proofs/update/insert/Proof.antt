@@ -15,7 +15,7 @@ use Rattle.meaning.specs.Step.{withRule, inserted, leaves, nodeOf}
 use Rattle.meaning.proofs.records.Fields.{Sized}
 use Rattle.meaning.proofs.rules.Words.{RuleFits, link-of}
 use Rattle.meaning.proofs.records.Checks.{Clear, clear}
-use Rattle.meaning.proofs.sound.Kept.{rule-fits, Room, room-for, room-lower, room-upper}
+use Rattle.meaning.proofs.sound.Kept.{rule-fits, RoomForEnds, room-for, room-lower, room-upper}
 use Rattle.lent.specs.Owners.{Whole}
 use Rattle.meaning.proofs.sound.OneRule.{Joined, comes}
 use Rattle.lent.proofs.OwnerRules.{Spans, rule-spans, node-small}
@@ -43,7 +43,7 @@ module _ (s : tie.Start) where
   passed : Clear state (s .args .r) (s .args .x .link) (s .args .x .prefix) (s .args .x .length) (s .args .x .priority)
   passed = clear state (s .args .r) (s .args .x .link) (s .args .x .prefix) (s .args .x .length) (s .args .x .priority) (s .pre .1 .1)
 
-  room : Room state word
+  room : RoomForEnds state word
   room = room-for state (s .pre .0 .sound) sized passed
 
   fits : RuleFits (s .args .x .link) (s .args .x .prefix) (s .args .x .length) (s .args .x .priority)
