@@ -1,6 +1,6 @@
 -- `hallcheck::check` meets its contract: the box is fresh. Assumes nothing.
 use borrow.Author.Needs.{needs}
-use Rattle.hallcheck.proofs.Going.{held-fresh}
+use Rattle.hallcheck.proofs.Between.{held-fresh}
 use Rattle.hallcheck.proofs.check.Statement.{statement}
 use Rattle.hallcheck.proofs.check.Tie as tie
 use Rattle.hallcheck.proofs.check.Reads as reads

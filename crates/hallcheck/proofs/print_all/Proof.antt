@@ -5,7 +5,7 @@ use Prim.Native.Nat.{_-_}
 use native.Mathlib.Omega.{arith}
 use lib.ListN.{length}
 use Rattle.meaning.specs.Box.{stateOf}
-use Rattle.hallcheck.proofs.Going.{Between, listed, goes}
+use Rattle.hallcheck.proofs.Between.{Between, listed, goes}
 use Rattle.hallcheck.proofs.print_all.Statement.{statement}
 use Rattle.hallcheck.proofs.print_all.Tie as tie
 use Rattle.hallcheck.proofs.print_all.Reads as reads
