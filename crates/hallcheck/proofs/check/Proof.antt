@@ -3,11 +3,6 @@ use borrow.Author.Needs.{needs}
 use Rattle.hallcheck.proofs.Between.{held-fresh}
 use Rattle.hallcheck.proofs.check.Statement.{statement}
 use Rattle.hallcheck.proofs.check.Tie as tie
-use Rattle.hallcheck.proofs.check.Reads as reads
-use Rattle.hallcheck.proofs.check.Lts as lts
-use Rattle.stream.proofs.clear_box.Reads as clear-box-reads
-use Rattle.hallcheck.proofs.print_all.Reads as print-all-reads
-use Rattle.io.proofs.large_buffer.Reads as large-buffer-reads
 
 large-buffer-requires : tie.Need-large-buffer-requires
 large-buffer-requires c κs = search needs

@@ -5,8 +5,6 @@ use Rattle.hallcheck.specs.Room.{entriesOf}
 use Rattle.hallcheck.proofs.Counted.{counts-none}
 use Rattle.hallcheck.proofs.entries_of.Statement.{statement}
 use Rattle.hallcheck.proofs.entries_of.Tie as tie
-use Rattle.hallcheck.proofs.entries_of.Reads as reads
-use Rattle.hallcheck.proofs.entries_of.Lts as lts
 
 returns : tie.Need-returns
 returns c = sym (ap entriesOf (c .before .answer .given .1) ∙ (unfold entriesOf in refl))

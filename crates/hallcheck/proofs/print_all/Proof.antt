@@ -8,11 +8,6 @@ use Rattle.meaning.specs.Box.{stateOf}
 use Rattle.hallcheck.proofs.Between.{Between, listed, goes}
 use Rattle.hallcheck.proofs.print_all.Statement.{statement}
 use Rattle.hallcheck.proofs.print_all.Tie as tie
-use Rattle.hallcheck.proofs.print_all.Reads as reads
-use Rattle.hallcheck.proofs.print_all.Lts as lts
-use Rattle.hall.proofs.take_record.Reads as take-record-reads
-use Rattle.hallcheck.proofs.print_answer.Reads as print-answer-reads
-use Rattle.hallcheck.proofs.write_out.Reads as write-out-reads
 
 abbrev Inv-loop : tie.InvT-loop
 Inv-loop bytes link₀ rule₀ cut₀ number₀ label₀ owner₀ list₀ out₀ h₀ at₀ place₀ end₀ link rule cut number label owner list out h at place end =

@@ -3,12 +3,6 @@ use native.Mathlib.Omega.{arith}
 use borrow.Author.Needs.{needs}
 use Rattle.hallcheck.proofs.print_answer.Statement.{statement}
 use Rattle.hallcheck.proofs.print_answer.Tie as tie
-use Rattle.hallcheck.proofs.print_answer.Reads as reads
-use Rattle.hallcheck.proofs.print_answer.Lts as lts
-use Rattle.hallcheck.proofs.entries_of.Reads as entries-of-reads
-use Rattle.hallcheck.proofs.make_room.Reads as make-room-reads
-use Rattle.hallcheck.proofs.print_changes.Reads as print-changes-reads
-use Rattle.print.proofs.put_line.Reads as put-line-reads
 
 make-room-requires : tie.Need-make-room-requires
 make-room-requires c κs = search needs

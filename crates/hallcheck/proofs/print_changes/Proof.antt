@@ -6,10 +6,6 @@ use lib.ListN.{length}
 use Rattle.hallcheck.specs.Room.{Room}
 use Rattle.hallcheck.proofs.print_changes.Statement.{statement}
 use Rattle.hallcheck.proofs.print_changes.Tie as tie
-use Rattle.hallcheck.proofs.print_changes.Reads as reads
-use Rattle.hallcheck.proofs.print_changes.Lts as lts
-use Rattle.hallcheck.proofs.make_room.Reads as make-room-reads
-use Rattle.print.proofs.put_change.Reads as put-change-reads
 
 abbrev Inv-loop : tie.InvT-loop
 Inv-loop out₀ from list count end₀ i₀ out end i = (i ≤ count) × Room out end × (length out ≡ length out₀)

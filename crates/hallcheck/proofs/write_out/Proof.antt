@@ -3,9 +3,6 @@ use borrow.Author.Needs.{needs}
 use lib.Seq.{length-take-le}
 use Rattle.hallcheck.proofs.write_out.Statement.{statement}
 use Rattle.hallcheck.proofs.write_out.Tie as tie
-use Rattle.hallcheck.proofs.write_out.Reads as reads
-use Rattle.hallcheck.proofs.write_out.Lts as lts
-use Rattle.io.proofs.write_all.Reads as write-all-reads
 
 slice-aggregate-write-all : tie.Need-slice-aggregate-write-all
 slice-aggregate-write-all c = search (needs, length-take-le)

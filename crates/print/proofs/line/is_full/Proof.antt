@@ -3,8 +3,6 @@ use borrow.Author.Needs.{needs}
 use Rattle.print.proofs.Rooms.{too-short, too-late}
 use Rattle.print.proofs.line.is_full.Statement.{statement}
 use Rattle.print.proofs.line.is_full.Tie as tie
-use Rattle.print.proofs.line.is_full.Reads as reads
-use Rattle.print.proofs.line.is_full.Lts as lts
 
 returns : tie.Need-returns
 returns c = search (needs, too-short)

@@ -6,10 +6,6 @@ use Rattle.print.specs.Lines.{change}
 use Rattle.print.proofs.Rooms.{unwritten, written}
 use Rattle.print.proofs.line.put_change.Statement.{statement}
 use Rattle.print.proofs.line.put_change.Tie as tie
-use Rattle.print.proofs.line.put_change.Reads as reads
-use Rattle.print.proofs.line.put_change.Lts as lts
-use Rattle.print.proofs.line.is_full.Reads as is-full-reads
-use Rattle.print.proofs.line.write_change.Reads as write-change-reads
 
 is-full-requires : tie.Need-is-full-requires
 is-full-requires c κs = search needs

@@ -9,10 +9,6 @@ use Rattle.print.specs.Lines.{line, word, values}
 use Rattle.print.proofs.Writes.{also}
 use Rattle.print.proofs.line.put_fate.Statement.{statement}
 use Rattle.print.proofs.line.put_fate.Tie as tie
-use Rattle.print.proofs.line.put_fate.Reads as reads
-use Rattle.print.proofs.line.put_fate.Lts as lts
-use Rattle.print.proofs.line.put_start.Reads as put-start-reads
-use Rattle.print.proofs.line.put_two.Reads as put-two-reads
 
 put-two-requires : tie.Need-put-two-requires
 put-two-requires c κs = search needs

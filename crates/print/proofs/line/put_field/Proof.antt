@@ -3,10 +3,6 @@ use borrow.Author.Needs.{needs}
 use Rattle.print.proofs.Writes.{both}
 use Rattle.print.proofs.line.put_field.Statement.{statement}
 use Rattle.print.proofs.line.put_field.Tie as tie
-use Rattle.print.proofs.line.put_field.Reads as reads
-use Rattle.print.proofs.line.put_field.Lts as lts
-use Rattle.print.proofs.number.put_byte.Reads as put-byte-reads
-use Rattle.print.proofs.number.put_number.Reads as put-number-reads
 
 put-number-requires : tie.Need-put-number-requires
 put-number-requires c κs = search needs

@@ -5,10 +5,6 @@ use borrow.Author.Tests.{ltb-true, ltb-false}
 use Rattle.print.proofs.Rooms.{unwritten, written}
 use Rattle.print.proofs.line.put_line.Statement.{statement}
 use Rattle.print.proofs.line.put_line.Tie as tie
-use Rattle.print.proofs.line.put_line.Reads as reads
-use Rattle.print.proofs.line.put_line.Lts as lts
-use Rattle.print.proofs.line.is_full.Reads as is-full-reads
-use Rattle.print.proofs.line.write_line.Reads as write-line-reads
 
 is-full-requires : tie.Need-is-full-requires
 is-full-requires c κs = search needs

@@ -8,10 +8,6 @@ use Rattle.print.proofs.Writes.{both, also}
 use Rattle.print.proofs.Fields.{no-link, some-link}
 use Rattle.print.proofs.line.put_link.Statement.{statement}
 use Rattle.print.proofs.line.put_link.Tie as tie
-use Rattle.print.proofs.line.put_link.Reads as reads
-use Rattle.print.proofs.line.put_link.Lts as lts
-use Rattle.print.proofs.number.put_byte.Reads as put-byte-reads
-use Rattle.print.proofs.number.put_short.Reads as put-short-reads
 
 put-byte-requires : tie.Need-put-byte-requires
 put-byte-requires c κs = search needs

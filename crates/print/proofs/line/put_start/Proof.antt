@@ -3,10 +3,6 @@ use borrow.Author.Needs.{needs}
 use Rattle.print.proofs.Writes.{both}
 use Rattle.print.proofs.line.put_start.Statement.{statement}
 use Rattle.print.proofs.line.put_start.Tie as tie
-use Rattle.print.proofs.line.put_start.Reads as reads
-use Rattle.print.proofs.line.put_start.Lts as lts
-use Rattle.print.proofs.number.put_number.Reads as put-number-reads
-use Rattle.print.proofs.number.put_text.Reads as put-text-reads
 
 put-number-requires : tie.Need-put-number-requires
 put-number-requires c κs = search needs

@@ -10,10 +10,6 @@ use Rattle.print.proofs.Writes.{also}
 use Rattle.print.proofs.Fields.{join}
 use Rattle.print.proofs.line.put_tally.Statement.{statement}
 use Rattle.print.proofs.line.put_tally.Tie as tie
-use Rattle.print.proofs.line.put_tally.Reads as reads
-use Rattle.print.proofs.line.put_tally.Lts as lts
-use Rattle.print.proofs.line.put_field.Reads as put-field-reads
-use Rattle.print.proofs.line.put_start.Reads as put-start-reads
 
 put-start-requires : tie.Need-put-start-requires
 put-start-requires c κs = search needs

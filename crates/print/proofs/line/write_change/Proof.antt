@@ -9,11 +9,6 @@ use Rattle.print.proofs.Writes.{both, also}
 use Rattle.print.proofs.Fields.{join}
 use Rattle.print.proofs.line.write_change.Statement.{statement}
 use Rattle.print.proofs.line.write_change.Tie as tie
-use Rattle.print.proofs.line.write_change.Reads as reads
-use Rattle.print.proofs.line.write_change.Lts as lts
-use Rattle.print.proofs.line.put_field.Reads as put-field-reads
-use Rattle.print.proofs.line.put_link.Reads as put-link-reads
-use Rattle.print.proofs.number.put_text.Reads as put-text-reads
 
 put-text-requires : tie.Need-put-text-requires
 put-text-requires c κs = search needs

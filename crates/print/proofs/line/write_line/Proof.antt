@@ -7,13 +7,6 @@ use Rattle.print.specs.Lines.{line, word, values}
 use Rattle.print.proofs.Writes.{also}
 use Rattle.print.proofs.line.write_line.Statement.{statement}
 use Rattle.print.proofs.line.write_line.Tie as tie
-use Rattle.print.proofs.line.write_line.Reads as reads
-use Rattle.print.proofs.line.write_line.Lts as lts
-use Rattle.print.proofs.line.put_fate.Reads as put-fate-reads
-use Rattle.print.proofs.line.put_one.Reads as put-one-reads
-use Rattle.print.proofs.line.put_start.Reads as put-start-reads
-use Rattle.print.proofs.line.put_tally.Reads as put-tally-reads
-use Rattle.print.proofs.line.put_two.Reads as put-two-reads
 
 put-start-requires : tie.Need-put-start-requires
 put-start-requires c κs = search needs

@@ -4,8 +4,6 @@ use native.Mathlib.Omega.{arith}
 use Rattle.print.proofs.Lanes.{hundreds-are, pairs-fit, tens-fit, digits-are}
 use Rattle.print.proofs.number.pack_eight.Statement.{statement}
 use Rattle.print.proofs.number.pack_eight.Tie as tie
-use Rattle.print.proofs.number.pack_eight.Reads as reads
-use Rattle.print.proofs.number.pack_eight.Lts as lts
 
 mul-pairs-2 : tie.Need-mul-pairs-2
 mul-pairs-2 c = record { fits = omega (arith, hundreds-are (c .args .n) (c .pre)) }

@@ -6,9 +6,6 @@ use Rattle.print.proofs.Writes.{also}
 use Rattle.print.proofs.Words.{eight-bytes, eight-stores}
 use Rattle.print.proofs.number.put_eight.Statement.{statement}
 use Rattle.print.proofs.number.put_eight.Tie as tie
-use Rattle.print.proofs.number.put_eight.Reads as reads
-use Rattle.print.proofs.number.put_eight.Lts as lts
-use Rattle.print.proofs.number.pack_eight.Reads as pack-eight-reads
 
 pack-eight-requires : tie.Need-pack-eight-requires
 pack-eight-requires c κs = search needs

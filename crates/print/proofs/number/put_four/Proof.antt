@@ -6,9 +6,6 @@ use Rattle.print.proofs.Writes.{also}
 use Rattle.print.proofs.Words.{four-bytes, four-stores}
 use Rattle.print.proofs.number.put_four.Statement.{statement}
 use Rattle.print.proofs.number.put_four.Tie as tie
-use Rattle.print.proofs.number.put_four.Reads as reads
-use Rattle.print.proofs.number.put_four.Lts as lts
-use Rattle.print.proofs.number.pack_four.Reads as pack-four-reads
 
 pack-four-requires : tie.Need-pack-four-requires
 pack-four-requires c κs = search needs

@@ -6,10 +6,6 @@ use Rattle.print.proofs.Writes.{both, also}
 use Rattle.print.proofs.Digits.{more}
 use Rattle.print.proofs.number.put_middle.Statement.{statement}
 use Rattle.print.proofs.number.put_middle.Tie as tie
-use Rattle.print.proofs.number.put_middle.Reads as reads
-use Rattle.print.proofs.number.put_middle.Lts as lts
-use Rattle.print.proofs.number.put_four.Reads as put-four-reads
-use Rattle.print.proofs.number.put_small.Reads as put-small-reads
 
 put-small-requires : tie.Need-put-small-requires
 put-small-requires c κs = search needs

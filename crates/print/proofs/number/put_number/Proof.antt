@@ -6,11 +6,6 @@ use Rattle.print.proofs.Writes.{both, also}
 use Rattle.print.proofs.Digits.{most}
 use Rattle.print.proofs.number.put_number.Statement.{statement}
 use Rattle.print.proofs.number.put_number.Tie as tie
-use Rattle.print.proofs.number.put_number.Reads as reads
-use Rattle.print.proofs.number.put_number.Lts as lts
-use Rattle.print.proofs.number.put_eight.Reads as put-eight-reads
-use Rattle.print.proofs.number.put_head.Reads as put-head-reads
-use Rattle.print.proofs.number.put_middle.Reads as put-middle-reads
 
 put-middle-requires : tie.Need-put-middle-requires
 put-middle-requires c κs = search needs

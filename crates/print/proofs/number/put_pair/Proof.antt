@@ -6,8 +6,6 @@ use Rattle.print.proofs.Writes.{also}
 use Rattle.print.proofs.Words.{two-bytes, two-stores}
 use Rattle.print.proofs.number.put_pair.Statement.{statement}
 use Rattle.print.proofs.number.put_pair.Tie as tie
-use Rattle.print.proofs.number.put_pair.Reads as reads
-use Rattle.print.proofs.number.put_pair.Lts as lts
 
 slice-write-buf-2 : tie.Need-slice-write-buf-2
 slice-write-buf-2 c = simp length-set (omega arith)

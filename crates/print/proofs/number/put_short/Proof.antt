@@ -6,11 +6,6 @@ use Rattle.print.proofs.Writes.{also}
 use Rattle.print.proofs.Digits.{one, two}
 use Rattle.print.proofs.number.put_short.Statement.{statement}
 use Rattle.print.proofs.number.put_short.Tie as tie
-use Rattle.print.proofs.number.put_short.Reads as reads
-use Rattle.print.proofs.number.put_short.Lts as lts
-use Rattle.print.proofs.number.put_byte.Reads as put-byte-reads
-use Rattle.print.proofs.number.put_number.Reads as put-number-reads
-use Rattle.print.proofs.number.put_pair.Reads as put-pair-reads
 
 put-byte-requires : tie.Need-put-byte-requires
 put-byte-requires c κs = search needs

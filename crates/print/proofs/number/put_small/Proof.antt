@@ -6,11 +6,6 @@ use Rattle.print.proofs.Writes.{both, also}
 use Rattle.print.proofs.Digits.{one, two, three, four-digits}
 use Rattle.print.proofs.number.put_small.Statement.{statement}
 use Rattle.print.proofs.number.put_small.Tie as tie
-use Rattle.print.proofs.number.put_small.Reads as reads
-use Rattle.print.proofs.number.put_small.Lts as lts
-use Rattle.print.proofs.number.put_byte.Reads as put-byte-reads
-use Rattle.print.proofs.number.put_four.Reads as put-four-reads
-use Rattle.print.proofs.number.put_pair.Reads as put-pair-reads
 
 put-byte-requires : tie.Need-put-byte-requires
 put-byte-requires c κs = search needs

@@ -7,8 +7,6 @@ use Rattle.print.specs.Text.{Wrote}
 use Rattle.print.proofs.Writes.{none, copied, whole}
 use Rattle.print.proofs.number.put_text.Statement.{statement}
 use Rattle.print.proofs.number.put_text.Tie as tie
-use Rattle.print.proofs.number.put_text.Reads as reads
-use Rattle.print.proofs.number.put_text.Lts as lts
 
 abbrev Inv-loop : tie.InvT-loop
 Inv-loop buf₀ at text i₀ buf i = (i ≤ length text) × Wrote i (take i text) buf₀ buf at (at + i)
