@@ -1,14 +1,12 @@
 -- `tables::take::take_remove` meets its contract: a remove is refused as its checks say, or leaves what the update leaves. Assumes nothing.
 use mathlib.Core.Path.{_≡_, refl, sym, ap, _∙_}
 use mathlib.Core.Option.{none}
-use Prim.Native.Nat.{_≤_}
-use lib.ListN.{length}
 use borrow.Author.Needs.{needs}
 use denote.Ref.{now}
 use Rattle.meaning.specs.declared.Record.the-variants.{Remove as removal}
 use Rattle.meaning.specs.Records.{phaseOf}
 use Rattle.meaning.specs.Step.{checked, refusal}
-use Rattle.meaning.specs.Box.{stateOf, Held}
+use Rattle.meaning.specs.Box.{stateOf}
 use Rattle.lent.proofs.Labelled.{held-whole}
 use Rattle.lent.proofs.Steps.{short-leaves, disorder-leaves, order-leaves, turned-takes, remove-takes}
 use Rattle.tables.proofs.take.take_remove.Statement.{statement}
