@@ -17,36 +17,28 @@ abbrev μ-loop : tie.MeasureT-loop
 μ-loop bytes link₀ rule₀ cut₀ number₀ label₀ owner₀ list₀ out₀ h₀ at₀ place₀ end₀ link rule cut number label owner list out h at place end =
     length bytes - at
 
-take-record-requires : tie.Need-take-record-requires Inv-loop μ-loop
-take-record-requires c κs = c .before .before .before .before .before .before .before .before .loop .inv .0 .held
+-- the points: from the record taken back to the loop's head, and from where the loop goes on back to the call
+abbrev at-head : tie.After-take-record Inv-loop μ-loop → tie.At-loop Inv-loop μ-loop
+at-head taken = taken .before .before .before .before .before .before .before .before .before
+
+abbrev at-call : tie.After-struct-known2 Inv-loop μ-loop → tie.Start Inv-loop μ-loop
+at-call next = at-head (next .before .before .before .before .before .before .before .before .before .before .before) .before .before .before .before
 
 print-answer-requires : tie.Need-print-answer-requires Inv-loop μ-loop
 print-answer-requires c κs =
-    let t = c .before .before .before .before in
-    let l = t .before .before .before .before .before .before .before .before .before .loop in
-    (l .inv .0 .room, listed _ _ _ _ _ _ _ _ _ (l .inv .0) _ _ _ _ _ _ (t .take-record .ensures) (c .before .before .before .list .given))
-
-write-out-requires : tie.Need-write-out-requires Inv-loop μ-loop
-write-out-requires c κs = search needs
+    let back = c .before .before .before in
+    let head = at-head (back .before) in
+    (head .loop .inv .0 .room, listed _ _ _ _ _ _ _ _ _ (head .loop .inv .0) _ _ _ _ _ _ (back .before .take-record .ensures) (back .list .given))
 
 loop-again : tie.Need-loop-again Inv-loop μ-loop
 loop-again c =
-    let a = c .before .before .before .before .before .before in
-    let t = a .before .before .before .before .before in
-    let l = t .before .before .before .before .before .before .before .before .before .loop in (
-      goes _ _ _ _ _ _ _ _ _ (l .inv .0) _ _ _ _ _ _ (t .take-record .ensures) (a .before .before .before .before .list .given) _ _ (a .print-answer .ensures) (c .before .before .if1 .left),
-      a .before .before .before .before .list .given ∙ l .inv .1,
-      c .before .before .before .before .before .out .given ∙ l .inv .2,
+    let printed = c .before .before .before .before .before .before in
+    let back = printed .before .before .before .before in
+    let head = at-head (back .before) in (
+      goes _ _ _ _ _ _ _ _ _ (head .loop .inv .0) _ _ _ _ _ _ (back .before .take-record .ensures) (back .list .given) _ _ (printed .print-answer .ensures) (c .before .before .if1 .left),
+      back .list .given ∙ head .loop .inv .1,
+      c .before .before .before .before .before .out .given ∙ head .loop .inv .2,
     )
-
-add-at : tie.Need-add-at Inv-loop μ-loop
-add-at c = let g = loop-again c .0 in omega (arith, g .inside, c .before .before .before .before .before .before .before .before .before .before .before .before .before .before .before .before .before .before .before .before .before .before .before .before .good .0)
-
-add-place : tie.Need-add-place Inv-loop μ-loop
-add-place c = let g = loop-again c .0 in omega (arith, g .slow, g .inside, c .before .before .before .before .before .before .before .before .before .before .before .before .before .before .before .before .before .before .before .before .before .before .before .before .good .0)
-
-loop-less : tie.Need-loop-less Inv-loop μ-loop
-loop-less c = let g = loop-again c .0 in omega (arith, g .inside, c .before .before .if1 .left)
 
 pub print-all-spec : {M : Type 1} → statement M
 print-all-spec =
@@ -58,13 +50,13 @@ print-all-spec =
     (λ c. search needs)  -- sub-rest
     (λ c. search needs)  -- part-rest-start
     (λ c. search needs)  -- part-rest-end
-    take-record-requires
+    (λ c κs. search needs)  -- take-record-requires
     print-answer-requires
-    write-out-requires
+    (λ c κs. search needs)  -- write-out-requires
     (λ c. search needs)  -- same-length
     (λ c. search needs)  -- same-length-2
     (λ c. search needs)  -- returns
-    add-at
-    add-place
-    loop-less
+    (λ c. let next = loop-again c .0 in omega (arith, at-call c .good .0))  -- add-at
+    (λ c. let next = loop-again c .0 in omega (arith, at-call c .good .0))  -- add-place
+    (λ c. let next = loop-again c .0 in omega (arith, c .before .before .if1 .left))  -- loop-less
     loop-again)

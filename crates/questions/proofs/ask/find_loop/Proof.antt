@@ -43,18 +43,21 @@ above off more v r h b e w f = ⊎-elim (λ (l : r ≤ v). absurd (true≢false 
     go (inl q) = rw q e
     go (inr l) = w r (b r l)
 
+-- the points: from the inner loop's head back to the outer one's, and from there to the call
+abbrev at-outer : tie.At-loop Inv-loop μ-loop Inv-search μ-search → tie.At-search Inv-loop μ-loop Inv-search μ-search
+at-outer inner = inner .before .before .before .before
+
+abbrev at-call : tie.At-search Inv-loop μ-loop Inv-search μ-search → tie.Start Inv-loop μ-loop Inv-search μ-search
+at-call outer = outer .before .before .before .before
+
 -- the atom at place p is one of 512
-small : (a : tie.After-atom-at Inv-loop μ-loop Inv-search μ-search) → a .atom-at .result .0 < 512
-small a =
-    let i = a .before in
-    let s = i .before .before .before .before in
-    rw (a .atom-at .ensures) (small-atom _ _ _ (s .before .pre) _ (rw (s .places .ensures) at (i .search-test .taken)))
+small : (atom : tie.After-atom-at Inv-loop μ-loop Inv-search μ-search) → atom .atom-at .result .0 < 512
+small atom =
+    let outer = atom .before .before in
+    rw (atom .atom-at .ensures) (small-atom _ _ _ (at-call outer .pre) _ (rw (outer .before .before .before .places .ensures) at (atom .before .search-test .taken)))
 
 places-requires : tie.Need-places-requires Inv-loop μ-loop Inv-search μ-search
 places-requires c κs = c .pre .sound .cuts .room
-
-off-walks-requires : tie.Need-off-walks-requires Inv-loop μ-loop Inv-search μ-search
-off-walks-requires c κs = search needs
 
 returns : tie.Need-returns Inv-loop μ-loop Inv-search μ-search
 returns c = sym (no-loop _ _ _ (c .before .before .before .pre) _ (c .before .off-walks .ensures) (c .if1 .taken))
@@ -62,72 +65,59 @@ returns c = sym (no-loop _ _ _ (c .before .before .before .pre) _ (c .before .of
 search-holds : tie.Need-search-holds Inv-loop μ-loop Inv-search μ-search
 search-holds c = (omega arith, refl, λ q l. absurd (omega arith))
 
-atom-at-requires : tie.Need-atom-at-requires Inv-loop μ-loop Inv-search μ-search
-atom-at-requires c κs = search needs
-
-first-on-requires : tie.Need-first-on-requires Inv-loop μ-loop Inv-search μ-search
-first-on-requires c κs = search needs
-
 loop-holds : tie.Need-loop-holds Inv-loop μ-loop Inv-search μ-search
 loop-holds c =
-    let s = c .before .before .before in
-    let W = s .before .before .before .before .pre in
-    (s .search .inv .1, c .first-on .ensures .1, s .before .before .off-walks .ensures .each _ (together _ _ _ W) _ _ (small (c .before)))
+    let outer = c .before .before .before in
+    let W = at-call outer .pre in
+    (outer .search .inv .1, c .first-on .ensures .1, outer .before .before .off-walks .ensures .each _ (together _ _ _ W) _ _ (small (c .before)))
 
 look-requires : tie.Need-look-requires Inv-loop μ-loop Inv-search μ-search
 look-requires c κs =
-    let a = c .before .before .before in
-    let W = a .before .before .before .before .before .before .pre in
-    (small a, omega (arith, W .sound .small), W .sound .small, ends-of _ _ _ W, c .before .loop .inv .2)
+    let inner = c .before in
+    let W = at-call (at-outer inner) .pre in
+    (small (inner .before .before), omega (arith, W .sound .small), W .sound .small, ends-of _ _ _ W, inner .loop .inv .2)
 
 mul-t22 : tie.Need-mul-t22 Inv-loop μ-loop Inv-search μ-search
-mul-t22 c =
-    let s = c .before .before .before .before .before .before .before .before in
-    omega (arith, s .before .before .before .before .pre .sound .cuts .room)
+mul-t22 c = omega (arith, at-call (at-outer (c .before .before .before .before)) .pre .sound .cuts .room)
 
 element-copy-out-t25 : tie.Need-element-copy-out-t25 Inv-loop μ-loop Inv-search μ-search
-element-copy-out-t25 c =
-    let s = c .before .before .before .before .before .before .before .before in
-    omega (arith, s .before .before .before .before .pre .sound .cuts .room)
-
-first-on-requires-2 : tie.Need-first-on-requires-2 Inv-loop μ-loop Inv-search μ-search
-first-on-requires-2 c κs = search needs
+element-copy-out-t25 c = omega (arith, at-call (at-outer (c .before .before .before .before)) .pre .sound .cuts .room)
 
 loop-less : tie.Need-loop-less Inv-loop μ-loop Inv-search μ-search
 unfolding seen
 loop-less c =
-    let l = c .before .before .before .before .before .before in
-    let W = l .before .before .before .before .before .before .before .before .pre in
+    let inner = c .before .before .before .before .before .before in
+    let W = at-call (at-outer inner) .pre in
     let q = rw (c .before .before .more .given .1) at (c .before .before .before .before .look .ensures) in
-    let h = above _ _ _ _ (omega (arith, W .sound .small)) (l .loop .inv .1) (q .1) (q .2) (c .first-on2 .ensures .2) in
+    let h = above _ _ _ _ (omega (arith, W .sound .small)) (inner .loop .inv .1) (q .1) (q .2) (c .first-on2 .ensures .2) in
     omega arith
 
 loop-again : tie.Need-loop-again Inv-loop μ-loop Inv-search μ-search
 unfolding seen
 loop-again c =
-    let l = c .before .before .before .before .before .before in
+    let inner = c .before .before .before .before .before .before in
     let q = rw (c .before .before .more .given .1) at (c .before .before .before .before .look .ensures) in
-    (l .loop .inv .0, c .first-on2 .ensures .1, q .0)
+    (inner .loop .inv .0, c .first-on2 .ensures .1, q .0)
 
 search-again : tie.Need-search-again Inv-loop μ-loop Inv-search μ-search
 search-again c =
-    let l = c .before in
-    let s = l .before .before .before .before in
-    (omega arith, l .loop .inv .0, below-more _ _ (s .search .inv .2) (λ u h. rw (l .before .before .atom-at .ensures) at (clear _ _ _ _ _ (l .loop .inv .2) (l .loop .inv .1)) u (omega arith)))
+    let inner = c .before in
+    let e = inner .before .before .atom-at .ensures in
+    (omega arith, inner .loop .inv .0, below-more _ _ (at-outer inner .search .inv .2) (λ u h. rw e at (clear _ _ _ _ _ (inner .loop .inv .2) (inner .loop .inv .1)) u (omega arith)))
 
 returns-2 : tie.Need-returns-2 Inv-loop μ-loop Inv-search μ-search
 returns-2 c =
-    let s = c .before in
-    s .search .inv .1 ∙ sym (loop-none _ _ _ (s .before .before .before .before .pre) (λ q h. s .search .inv .2 q (omega arith)))
+    let outer = c .before in
+    outer .search .inv .1 ∙ sym (loop-none _ _ _ (at-call outer .pre) (λ q h. outer .search .inv .2 q (omega arith)))
 
 returns-3 : tie.Need-returns-3 Inv-loop μ-loop Inv-search μ-search
 unfolding seen
 returns-3 c =
-    let l = c .before .before .before .before .before in
-    let s = l .before .before .before .before in
-    let e = l .before .before .atom-at .ensures in
+    let inner = c .before .before .before .before .before in
+    let outer = at-outer inner in
+    let e = inner .before .before .atom-at .ensures in
     let q = rw (c .before .enum-told .given .1, e) at (c .before .before .before .look .ensures) in
-    sym (loop-is _ _ _ (s .before .before .before .before .pre) _ _ (omega arith) (omega arith) (s .search .inv .2) (rw e at (clear _ _ _ _ _ (l .loop .inv .2) (l .loop .inv .1))) q)
+    sym (loop-is _ _ _ (at-call outer .pre) _ _ (omega arith) (omega arith) (outer .search .inv .2) (rw e at (clear _ _ _ _ _ (inner .loop .inv .2) (inner .loop .inv .1))) q)
 
 pub find-loop-spec : {M : Type 1} → statement M
 find-loop-spec =
@@ -138,18 +128,18 @@ find-loop-spec =
     Inv-search
     μ-search
     places-requires
-    off-walks-requires
+    (λ c κs. search needs)  -- off-walks-requires
     returns
     search-holds
-    atom-at-requires
-    first-on-requires
+    (λ c κs. search needs)  -- atom-at-requires
+    (λ c κs. search needs)  -- first-on-requires
     loop-holds
     look-requires
     (λ c. search needs)  -- enum-told
     mul-t22
     element-copy-out-t25
     (λ c. search needs)  -- enum-known-more
-    first-on-requires-2
+    (λ c κs. search needs)  -- first-on-requires-2
     loop-less
     loop-again
     (λ c. search needs)  -- add-p

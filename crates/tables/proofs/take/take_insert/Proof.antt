@@ -1,94 +1,85 @@
 -- `tables::take::take_insert` meets its contract: an insert is refused as its checks say, or leaves what the update leaves. Assumes nothing.
 use mathlib.Core.Path.{_≡_, sym, ap, _∙_}
 use mathlib.Core.Option.{none}
-use Prim.Native.Nat.{_≤_}
-use lib.ListN.{length}
 use borrow.Author.Needs.{needs}
 use denote.Ref.{now}
 use Rattle.meaning.specs.declared.Record.the-variants.{Insert as insertion}
 use Rattle.meaning.specs.Records.{phaseOf}
 use Rattle.meaning.specs.Step.{checked, refusal}
-use Rattle.meaning.specs.Box.{stateOf, Held}
+use Rattle.meaning.specs.Box.{stateOf}
 use Rattle.lent.proofs.Labelled.{held-whole}
 use Rattle.lent.proofs.Steps.{short-leaves, disorder-leaves, order-leaves, turned-takes, insert-takes}
 use Rattle.tables.proofs.take.take_insert.Statement.{statement}
 use Rattle.tables.proofs.take.take_insert.Tie as tie
 
+-- the points: from the checks passed back to the record in order, and from there to the call
+abbrev at-order : tie.After-enum-told → tie.Else2
+at-order passed = passed .before .before .before .before .before
+
+abbrev at-call : tie.Else2 → tie.Start
+at-call order = order .before .before .before .before
+
 -- the insert is not refused once its checks have passed
 passes : (c : tie.After-enum-told)
-    → let x = c .before .before .before .before .before .before .before .before .before .args in
+    → let x = at-call (at-order c) .args in
     refusal (stateOf (x .h) (now (x .link)) (now (x .rule)) (now (x .cut)) (now (x .number))) (insertion (x .r) (x .x .link) (x .x .prefix) (x .x .length) (x .x .priority)) ≡ none
 unfolding checked
 passes c = sym (c .before .before .check-insert .ensures _) ∙ ap checked (c .enum-told .given .1)
 
-refused-requires : tie.Need-refused-requires
-refused-requires c κs = search needs
-
 returns : tie.Need-returns
 returns c =
-    let d = c .before in
-    rw (c .refused .ensures) (short-leaves _ _ _ _ (d .before .before .pre) _ (d .if1 .taken))
-
-refused-requires-2 : tie.Need-refused-requires-2
-refused-requires-2 c κs = search needs
+    let short = c .before in
+    rw (c .refused .ensures) (short-leaves _ _ _ _ (short .before .before .pre) _ (short .if1 .taken))
 
 returns-2 : tie.Need-returns-2
 unfolding phaseOf
 returns-2 c =
-    let d = c .before in
-    let l = d .before .before in
-    rw (c .refused2 .ensures) (disorder-leaves _ _ _ _ (l .before .before .pre) (l .if1 .left) _ _ (d .if2 .taken))
+    let disorder = c .before in
+    let long = disorder .before .before in
+    rw (c .refused2 .ensures) (disorder-leaves _ _ _ _ (long .before .before .pre) (long .if1 .left) _ _ (disorder .if2 .taken))
 
 check-insert-requires : tie.Need-check-insert-requires
-check-insert-requires c κs = let W = held-whole _ _ _ (c .before .before .before .before .before .before .pre) in (W .sound .cuts, W .sound .few)
-
-refused-requires-3 : tie.Need-refused-requires-3
-refused-requires-3 c κs = search needs
+check-insert-requires c κs = let W = held-whole _ _ _ (at-call (c .before .before) .pre) in (W .sound .cuts, W .sound .few)
 
 insert-requires : tie.Need-insert-requires
 insert-requires c κs =
-    let t = c .before .before .before .before .before .before in
-    let e = t .before .before .before .before .before in
-    let l = e .before .before in
-    (held-whole _ _ _ (l .before .before .pre), (e .if2 .left, passes t, l .if1 .left))
-
-known-requires : tie.Need-known-requires
-known-requires c κs = search needs
+    let passed = c .before .before .before .before .before .before in
+    let order = at-order passed in
+    (held-whole _ _ _ (at-call order .pre), (order .if2 .left, passes passed, order .before .before .if1 .left))
 
 returns-3 : tie.Need-returns-3
 unfolding checked phaseOf
 returns-3 c =
-    let k = c .before .before in
-    let d = k .before .before in
-    let e = d .before .before .before in
-    let l = e .before .before in
+    let failed = c .before .before in
+    let check = failed .before .before in
+    let order = check .before .before .before in
     rw (c .refused3 .ensures)
-    (turned-takes _ _ _ _ (l .before .before .pre) _ _ _ (sym (d .check-insert .ensures _) ∙ ap checked (k .k .given .1))
-    ∙ order-leaves _ _ (l .if1 .left) _ _ (e .if2 .left))
+    (turned-takes _ _ _ _ (at-call order .pre) _ _ _ (sym (check .check-insert .ensures _) ∙ ap checked (failed .k .given .1))
+    ∙ order-leaves _ _ (order .before .before .if1 .left) _ _ (order .if2 .left))
 
 returns-4 : tie.Need-returns-4
 unfolding phaseOf
 returns-4 c =
-    let u = c .before .before .before .before .before in
-    let t = u .before .before .before .before .before .before .before in
-    let e = t .before .before .before .before .before in
-    insert-takes _ _ _ _ _ _ _ _ _ _ _ _ (c .before .known .ensures) (u .insert .ensures .1) (passes t) _ (u .insert .ensures .0)
-    ∙ order-leaves _ _ (e .before .before .if1 .left) _ _ (e .if2 .left)
+    let updated = c .before .before .before .before .before in
+    let passed = updated .before .before .before .before .before .before .before in
+    let order = at-order passed in
+    insert-takes _ _ _ _ _ _ _ _ _ _ _ _ (c .before .known .ensures) (updated .insert .ensures .1) (passes passed) _ (updated .insert .ensures .0)
+    ∙ order-leaves _ _ (order .before .before .if1 .left) _ _ (order .if2 .left)
 
 pub take-insert-spec : {M : Type 1} → statement M
 take-insert-spec =
     tie.close
     (tie.spec
-    refused-requires
+    (λ c κs. search needs)  -- refused-requires
     returns
-    refused-requires-2
+    (λ c κs. search needs)  -- refused-requires-2
     returns-2
     check-insert-requires
     (λ c. search needs)  -- enum-known-k
-    refused-requires-3
+    (λ c κs. search needs)  -- refused-requires-3
     (λ c. search needs)  -- enum-told
     insert-requires
-    known-requires
+    (λ c κs. search needs)  -- known-requires
     returns-3
     (λ c. search needs)  -- same-length
     returns-4)
