@@ -4,12 +4,6 @@ use Rattle.hallcheck.proofs.Between.{held-fresh}
 use Rattle.hallcheck.proofs.check.Statement.{statement}
 use Rattle.hallcheck.proofs.check.Tie as tie
 
-large-buffer-requires : tie.Need-large-buffer-requires
-large-buffer-requires c κs = search needs
-
-clear-box-requires : tie.Need-clear-box-requires
-clear-box-requires c κs = search needs
-
 print-all-requires : tie.Need-print-all-requires
 print-all-requires c κs = (search (needs, held-fresh), (search needs, search needs))
 
@@ -17,8 +11,8 @@ pub check-spec : {M : Type 1} → statement M
 check-spec =
     tie.close
     (tie.spec
-    large-buffer-requires
-    clear-box-requires
+    (λ c κs. search needs)  -- large-buffer-requires
+    (λ c κs. search needs)  -- clear-box-requires
     (λ c. search needs)  -- slice-aggregate-print-all
     (λ c. search needs)  -- slice-aggregate-print-all-2
     print-all-requires

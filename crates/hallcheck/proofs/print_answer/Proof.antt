@@ -4,15 +4,6 @@ use borrow.Author.Needs.{needs}
 use Rattle.hallcheck.proofs.print_answer.Statement.{statement}
 use Rattle.hallcheck.proofs.print_answer.Tie as tie
 
-make-room-requires : tie.Need-make-room-requires
-make-room-requires c κs = search needs
-
-put-line-requires : tie.Need-put-line-requires
-put-line-requires c κs = search needs
-
-entries-of-requires : tie.Need-entries-of-requires
-entries-of-requires c κs = search needs
-
 print-changes-requires : tie.Need-print-changes-requires
 print-changes-requires c κs =
     let w = c .before .before .before .before in
@@ -25,9 +16,9 @@ print-answer-spec =
     tie.close
     (tie.spec
     (λ c. search needs)  -- enum-told
-    make-room-requires
-    put-line-requires
-    entries-of-requires
+    (λ c κs. search needs)  -- make-room-requires
+    (λ c κs. search needs)  -- put-line-requires
+    (λ c κs. search needs)  -- entries-of-requires
     print-changes-requires
     (λ c. search needs)  -- returns
     (λ c. search needs)  -- same-length

@@ -13,12 +13,6 @@ Inv-loop out₀ from list count end₀ i₀ out end i = (i ≤ count) × Room ou
 abbrev μ-loop : tie.MeasureT-loop
 μ-loop out₀ from list count end₀ i₀ out end i = count - i
 
-make-room-requires : tie.Need-make-room-requires Inv-loop μ-loop
-make-room-requires c κs = search needs
-
-put-change-requires : tie.Need-put-change-requires Inv-loop μ-loop
-put-change-requires c κs = search needs
-
 loop-again : tie.Need-loop-again Inv-loop μ-loop
 loop-again c =
     let w = c .before .before in
@@ -33,7 +27,7 @@ print-changes-spec =
     μ-loop
     (λ c. search needs)  -- loop-holds
     (λ c. search needs)  -- mul-at
-    make-room-requires
+    (λ c κs. search needs)  -- make-room-requires
     (λ c. search needs)  -- mul-put-change
     (λ c. search needs)  -- shared-slice-read-put-change
     (λ c. search needs)  -- add-put-change
@@ -48,7 +42,7 @@ print-changes-spec =
     (λ c. search needs)  -- add-put-change-4
     (λ c. search needs)  -- mul-put-change-5
     (λ c. search needs)  -- shared-slice-read-put-change-5
-    put-change-requires
+    (λ c κs. search needs)  -- put-change-requires
     (λ c. search needs)  -- add-i
     (λ c. search needs)  -- loop-less
     loop-again

@@ -7,11 +7,8 @@ use Rattle.hallcheck.proofs.write_out.Tie as tie
 slice-aggregate-write-all : tie.Need-slice-aggregate-write-all
 slice-aggregate-write-all c = search (needs, length-take-le)
 
-write-all-requires : tie.Need-write-all-requires
-write-all-requires c κs = search needs
-
 pub write-out-spec : {M : Type 1} → statement M
 write-out-spec = tie.close (tie.spec
     slice-aggregate-write-all
-    write-all-requires
+    (λ c κs. search needs)  -- write-all-requires
     (λ c. search needs))  -- returns

@@ -12,9 +12,6 @@ Inv-loop list₀ k₀ list k = (length list ≡ length list₀) × (k ≤ 11)
 abbrev μ-loop : tie.MeasureT-loop
 μ-loop list₀ k₀ list k = 11 - k
 
-say-kind-requires : tie.Need-say-kind-requires Inv-loop μ-loop
-say-kind-requires c κs = search needs
-
 pub say-kinds-spec : {M : Type 1} → statement M
 say-kinds-spec =
     tie.close
@@ -22,7 +19,7 @@ say-kinds-spec =
     Inv-loop
     μ-loop
     (λ c. search needs)  -- loop-holds
-    say-kind-requires
+    (λ c κs. search needs)  -- say-kind-requires
     (λ c. search needs)  -- add-k
     (λ c. search needs)  -- loop-less
     (λ c. search needs)  -- loop-again

@@ -12,12 +12,6 @@ Inv-loop stream₀ start at₀ k₀ stream at k = (length stream ≡ length stre
 abbrev μ-loop : tie.MeasureT-loop
 μ-loop stream₀ start at₀ k₀ stream at k = 256 - k
 
-put-three-requires : tie.Need-put-three-requires Inv-loop μ-loop
-put-three-requires c κs = search needs
-
-put-insert-requires : tie.Need-put-insert-requires Inv-loop μ-loop
-put-insert-requires c κs = search needs
-
 pub put-changes-spec : {M : Type 1} → statement M
 put-changes-spec =
     tie.close
@@ -25,10 +19,10 @@ put-changes-spec =
     Inv-loop
     μ-loop
     (λ c. search needs)  -- loop-holds
-    put-three-requires
+    (λ c κs. search needs)  -- put-three-requires
     (λ c. search needs)  -- cast-half
     (λ c. search needs)  -- mul-half
-    put-insert-requires
+    (λ c κs. search needs)  -- put-insert-requires
     (λ c. search needs)  -- add-k
     (λ c. search needs)  -- loop-less
     (λ c. search needs)  -- loop-again

@@ -12,12 +12,6 @@ Inv-loop stream₀ start at₀ v₀ stream at v = (length stream ≡ length stre
 abbrev μ-loop : tie.MeasureT-loop
 μ-loop stream₀ start at₀ v₀ stream at v = 15 - v
 
-put-four-requires : tie.Need-put-four-requires Inv-loop μ-loop
-put-four-requires c κs = search needs
-
-put-four-requires-2 : tie.Need-put-four-requires-2 Inv-loop μ-loop
-put-four-requires-2 c κs = search needs
-
 pub put-links-spec : {M : Type 1} → statement M
 put-links-spec =
     tie.close
@@ -25,9 +19,9 @@ put-links-spec =
     Inv-loop
     μ-loop
     (λ c. search needs)  -- loop-holds
-    put-four-requires
+    (λ c κs. search needs)  -- put-four-requires
     (λ c. search needs)  -- add-put-four
-    put-four-requires-2
+    (λ c κs. search needs)  -- put-four-requires-2
     (λ c. search needs)  -- add-v
     (λ c. search needs)  -- loop-less
     (λ c. search needs)  -- loop-again

@@ -12,9 +12,6 @@ Inv-loop stream₀ start at₀ k₀ stream at k = (length stream ≡ length stre
 abbrev μ-loop : tie.MeasureT-loop
 μ-loop stream₀ start at₀ k₀ stream at k = 256 - k
 
-put-insert-requires : tie.Need-put-insert-requires Inv-loop μ-loop
-put-insert-requires c κs = search needs
-
 pub put-rules-spec : {M : Type 1} → statement M
 put-rules-spec =
     tie.close
@@ -25,7 +22,7 @@ put-rules-spec =
     (λ c. search needs)  -- cast-rule
     (λ c. search needs)  -- mul-put-insert
     (λ c. search needs)  -- add-put-insert
-    put-insert-requires
+    (λ c κs. search needs)  -- put-insert-requires
     (λ c. search needs)  -- add-k
     (λ c. search needs)  -- loop-less
     (λ c. search needs)  -- loop-again

@@ -10,9 +10,6 @@ Inv-loop label l₀ l = l ≤ 33
 abbrev μ-loop : tie.MeasureT-loop
 μ-loop label l₀ l = 33 - l
 
-say-link-requires : tie.Need-say-link-requires Inv-loop μ-loop
-say-link-requires c κs = search needs
-
 pub say-links-spec : {M : Type 1} → statement M
 say-links-spec =
     tie.close
@@ -20,7 +17,7 @@ say-links-spec =
     Inv-loop
     μ-loop
     (λ c. search needs)  -- loop-holds
-    say-link-requires
+    (λ c κs. search needs)  -- say-link-requires
     (λ c. search needs)  -- add-l
     (λ c. search needs)  -- loop-less
     (λ c. search needs)  -- loop-again

@@ -6,24 +6,6 @@ use Rattle.stream.proofs.Clears.{fresh-by, sized}
 use Rattle.stream.proofs.clear_box.Statement.{statement}
 use Rattle.stream.proofs.clear_box.Tie as tie
 
-clear-halves-requires : tie.Need-clear-halves-requires
-clear-halves-requires c κs = search needs
-
-clear-words-requires : tie.Need-clear-words-requires
-clear-words-requires c κs = search needs
-
-clear-words-requires-2 : tie.Need-clear-words-requires-2
-clear-words-requires-2 c κs = search needs
-
-clear-halves-requires-2 : tie.Need-clear-halves-requires-2
-clear-halves-requires-2 c κs = search needs
-
-clear-words-requires-3 : tie.Need-clear-words-requires-3
-clear-words-requires-3 c κs = search needs
-
-clear-halves-requires-3 : tie.Need-clear-halves-requires-3
-clear-halves-requires-3 c κs = search needs
-
 returns : tie.Need-returns
 returns c =
     let a = c .before .before .before .before .before .before .before .before .before .before .before .before .args in (
@@ -39,11 +21,11 @@ pub clear-box-spec : {M : Type 1} → statement M
 clear-box-spec =
     tie.close
     (tie.spec
-    clear-halves-requires
-    clear-words-requires
-    clear-words-requires-2
+    (λ c κs. search needs)  -- clear-halves-requires
+    (λ c κs. search needs)  -- clear-words-requires
+    (λ c κs. search needs)  -- clear-words-requires-2
     (λ c. search needs)  -- element-write-cut
-    clear-halves-requires-2
-    clear-words-requires-3
-    clear-halves-requires-3
+    (λ c κs. search needs)  -- clear-halves-requires-2
+    (λ c κs. search needs)  -- clear-words-requires-3
+    (λ c κs. search needs)  -- clear-halves-requires-3
     returns)

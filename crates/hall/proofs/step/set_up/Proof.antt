@@ -7,18 +7,6 @@ use Rattle.lent.proofs.Others.{not-before}
 use Rattle.hall.proofs.step.set_up.Statement.{statement}
 use Rattle.hall.proofs.step.set_up.Tie as tie
 
-take-hall-requires : tie.Need-take-hall-requires
-take-hall-requires c κs = search needs
-
-take-link-requires : tie.Need-take-link-requires
-take-link-requires c κs = search needs
-
-take-close-requires : tie.Need-take-close-requires
-take-close-requires c κs = search needs
-
-only-requires : tie.Need-only-requires
-only-requires c κs = search needs
-
 returns : tie.Need-returns
 unfolding phaseOf
 returns c rule cut places label owner list h p q =
@@ -45,12 +33,12 @@ set-up-spec =
     tie.close
     (tie.spec
     (λ c. search needs)  -- enum-known-what
-    take-hall-requires
+    (λ c κs. search needs)  -- take-hall-requires
     (λ c. search needs)  -- enum-known-what-2
-    take-link-requires
+    (λ c κs. search needs)  -- take-link-requires
     (λ c. search needs)  -- enum-told
-    take-close-requires
-    only-requires
+    (λ c κs. search needs)  -- take-close-requires
+    (λ c κs. search needs)  -- only-requires
     returns
     returns-2
     returns-3

@@ -10,16 +10,10 @@ use Rattle.lent.proofs.Steps.{turned-takes, opened-takes}
 use Rattle.hall.proofs.step.take_hall.Statement.{statement}
 use Rattle.hall.proofs.step.take_hall.Tie as tie
 
-only-requires : tie.Need-only-requires
-only-requires c κs = search needs
-
 returns : tie.Need-returns
 unfolding refusal when
 returns c link rule cut number label owner list h p =
     rw (c .only .ensures) (turned-takes _ label owner list h _ _ 4 (rw (eq-eqb _ 0 (c .before .if1 .taken))))
-
-only-requires-2 : tie.Need-only-requires-2
-only-requires-2 c κs = search needs
 
 returns-2 : tie.Need-returns-2
 unfolding refusal when
@@ -36,8 +30,8 @@ pub take-hall-spec : {M : Type 1} → statement M
 take-hall-spec =
     tie.close
     (tie.spec
-    only-requires
+    (λ c κs. search needs)  -- only-requires
     returns
-    only-requires-2
+    (λ c κs. search needs)  -- only-requires-2
     returns-2
     returns-3)

@@ -20,12 +20,6 @@ passes : (c : tie.After-enum-told)
 unfolding checked
 passes c = clear-link _ _ _ _ (sym (c .before .before .check-link .ensures [] [] [] []) ∙ ap checked (c .enum-told .given .1))
 
-check-link-requires : tie.Need-check-link-requires
-check-link-requires c κs = search needs
-
-only-requires : tie.Need-only-requires
-only-requires c κs = search needs
-
 end-from-requires : tie.Need-end-from-requires
 end-from-requires c κs = (passes c .code, passes c .drop)
 
@@ -59,9 +53,9 @@ pub take-link-spec : {M : Type 1} → statement M
 take-link-spec =
     tie.close
     (tie.spec
-    check-link-requires
+    (λ c κs. search needs)  -- check-link-requires
     (λ c. search needs)  -- enum-known-k
-    only-requires
+    (λ c κs. search needs)  -- only-requires
     (λ c. search needs)  -- enum-told
     end-from-requires
     pack-requires

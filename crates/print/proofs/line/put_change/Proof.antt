@@ -7,9 +7,6 @@ use Rattle.print.proofs.Rooms.{unwritten, written}
 use Rattle.print.proofs.line.put_change.Statement.{statement}
 use Rattle.print.proofs.line.put_change.Tie as tie
 
-is-full-requires : tie.Need-is-full-requires
-is-full-requires c κs = search needs
-
 returns : tie.Need-returns
 returns c = unwritten (ltb-true _ _ (sym (c .before .is-full .ensures) ∙ c .if1 .taken))
 
@@ -26,7 +23,7 @@ pub put-change-spec : {M : Type 1} → statement M
 put-change-spec =
     tie.close
     (tie.spec
-    is-full-requires
+    (λ c κs. search needs)  -- is-full-requires
     (λ c. search needs)  -- same-length
     returns
     write-change-requires

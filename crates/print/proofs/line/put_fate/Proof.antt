@@ -10,15 +10,6 @@ use Rattle.print.proofs.Writes.{also}
 use Rattle.print.proofs.line.put_fate.Statement.{statement}
 use Rattle.print.proofs.line.put_fate.Tie as tie
 
-put-two-requires : tie.Need-put-two-requires
-put-two-requires c κs = search needs
-
-put-two-requires-2 : tie.Need-put-two-requires-2
-put-two-requires-2 c κs = search needs
-
-put-start-requires : tie.Need-put-start-requires
-put-start-requires c κs = search needs
-
 returns : tie.Need-returns
 unfolding line word values said saidFate
 returns c =
@@ -48,15 +39,15 @@ put-fate-spec =
     (λ c. search needs)  -- slice-aggregate-put-two
     (λ c. search needs)  -- cast-put-two
     (λ c. search needs)  -- cast-put-two-2
-    put-two-requires
+    (λ c κs. search needs)  -- put-two-requires
     (λ c. search needs)  -- enum-known-fate-2
     (λ c. search needs)  -- slice-aggregate-put-two-2
     (λ c. search needs)  -- cast-put-two-3
     (λ c. search needs)  -- cast-put-two-4
-    put-two-requires-2
+    (λ c κs. search needs)  -- put-two-requires-2
     (λ c. search needs)  -- enum-told
     (λ c. search needs)  -- slice-aggregate-put-start
-    put-start-requires
+    (λ c κs. search needs)  -- put-start-requires
     (λ c. search needs)  -- same-length
     returns
     (λ c. search needs)  -- same-length-2

@@ -4,12 +4,6 @@ use Rattle.print.proofs.Writes.{both}
 use Rattle.print.proofs.line.put_field.Statement.{statement}
 use Rattle.print.proofs.line.put_field.Tie as tie
 
-put-number-requires : tie.Need-put-number-requires
-put-number-requires c κs = search needs
-
-put-byte-requires : tie.Need-put-byte-requires
-put-byte-requires c κs = search needs
-
 returns : tie.Need-returns
 returns c =
     let d = c .before .before in
@@ -17,7 +11,7 @@ returns c =
 
 pub put-field-spec : {M : Type 1} → statement M
 put-field-spec = tie.close (tie.spec
-    put-number-requires
-    put-byte-requires
+    (λ c κs. search needs)  -- put-number-requires
+    (λ c κs. search needs)  -- put-byte-requires
     (λ c. search needs)  -- same-length
     returns)

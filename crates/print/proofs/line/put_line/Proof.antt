@@ -6,9 +6,6 @@ use Rattle.print.proofs.Rooms.{unwritten, written}
 use Rattle.print.proofs.line.put_line.Statement.{statement}
 use Rattle.print.proofs.line.put_line.Tie as tie
 
-is-full-requires : tie.Need-is-full-requires
-is-full-requires c κs = search needs
-
 returns : tie.Need-returns
 returns c = unwritten (ltb-true _ _ (sym (c .before .is-full .ensures) ∙ c .if1 .taken))
 
@@ -24,7 +21,7 @@ pub put-line-spec : {M : Type 1} → statement M
 put-line-spec =
     tie.close
     (tie.spec
-    is-full-requires
+    (λ c κs. search needs)  -- is-full-requires
     (λ c. search needs)  -- same-length
     returns
     write-line-requires

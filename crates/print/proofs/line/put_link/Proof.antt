@@ -9,24 +9,12 @@ use Rattle.print.proofs.Fields.{no-link, some-link}
 use Rattle.print.proofs.line.put_link.Statement.{statement}
 use Rattle.print.proofs.line.put_link.Tie as tie
 
-put-byte-requires : tie.Need-put-byte-requires
-put-byte-requires c κs = search needs
-
-put-byte-requires-2 : tie.Need-put-byte-requires-2
-put-byte-requires-2 c κs = search needs
-
 returns : tie.Need-returns
 returns c =
     let d = c .before .before in
     let s = d .before .before .before .before .before .before .before .before in
     also (ap (λ (t : List ℕ). t ++ (s .args .after ∷ [])) (sym (no-link (s .args .link) (d .before .before .before .before .before .before .if1 .taken)))) (omega arith)
     (both (d .before .before .before .before .put-byte .ensures) (d .put-byte2 .ensures))
-
-put-short-requires : tie.Need-put-short-requires
-put-short-requires c κs = search needs
-
-put-byte-requires-3 : tie.Need-put-byte-requires-3
-put-byte-requires-3 c κs = search needs
 
 returns-2 : tie.Need-returns-2
 returns-2 c =
@@ -39,11 +27,11 @@ pub put-link-spec : {M : Type 1} → statement M
 put-link-spec =
     tie.close
     (tie.spec
-    put-byte-requires
-    put-byte-requires-2
+    (λ c κs. search needs)  -- put-byte-requires
+    (λ c κs. search needs)  -- put-byte-requires-2
     (λ c. search needs)  -- same-length
     returns
-    put-short-requires
-    put-byte-requires-3
+    (λ c κs. search needs)  -- put-short-requires
+    (λ c κs. search needs)  -- put-byte-requires-3
     (λ c. search needs)  -- same-length-2
     returns-2)

@@ -9,12 +9,6 @@ use Rattle.print.proofs.Fields.{join}
 use Rattle.print.proofs.line.put_one.Statement.{statement}
 use Rattle.print.proofs.line.put_one.Tie as tie
 
-put-start-requires : tie.Need-put-start-requires
-put-start-requires c κs = search needs
-
-put-field-requires : tie.Need-put-field-requires
-put-field-requires c κs = search needs
-
 returns : tie.Need-returns
 returns c =
     let d₂ = c .before .before in
@@ -24,7 +18,7 @@ returns c =
 
 pub put-one-spec : {M : Type 1} → statement M
 put-one-spec = tie.close (tie.spec
-    put-start-requires
-    put-field-requires
+    (λ c κs. search needs)  -- put-start-requires
+    (λ c κs. search needs)  -- put-field-requires
     (λ c. search needs)  -- same-length
     returns)

@@ -4,12 +4,6 @@ use Rattle.print.proofs.Writes.{both}
 use Rattle.print.proofs.line.put_start.Statement.{statement}
 use Rattle.print.proofs.line.put_start.Tie as tie
 
-put-number-requires : tie.Need-put-number-requires
-put-number-requires c κs = search needs
-
-put-text-requires : tie.Need-put-text-requires
-put-text-requires c κs = search needs
-
 returns : tie.Need-returns
 returns c =
     let d = c .before .before in
@@ -17,7 +11,7 @@ returns c =
 
 pub put-start-spec : {M : Type 1} → statement M
 put-start-spec = tie.close (tie.spec
-    put-number-requires
-    put-text-requires
+    (λ c κs. search needs)  -- put-number-requires
+    (λ c κs. search needs)  -- put-text-requires
     (λ c. search needs)  -- same-length
     returns)

@@ -11,18 +11,6 @@ use Rattle.print.proofs.Fields.{join}
 use Rattle.print.proofs.line.put_tally.Statement.{statement}
 use Rattle.print.proofs.line.put_tally.Tie as tie
 
-put-start-requires : tie.Need-put-start-requires
-put-start-requires c κs = search needs
-
-put-field-requires : tie.Need-put-field-requires
-put-field-requires c κs = search needs
-
-put-field-requires-2 : tie.Need-put-field-requires-2
-put-field-requires-2 c κs = search needs
-
-put-field-requires-3 : tie.Need-put-field-requires-3
-put-field-requires-3 c κs = search needs
-
 returns : tie.Need-returns
 unfolding line word values said
 returns c =
@@ -41,9 +29,9 @@ put-tally-spec =
     tie.close
     (tie.spec
     (λ c. search needs)  -- slice-aggregate-put-start
-    put-start-requires
-    put-field-requires
-    put-field-requires-2
-    put-field-requires-3
+    (λ c κs. search needs)  -- put-start-requires
+    (λ c κs. search needs)  -- put-field-requires
+    (λ c κs. search needs)  -- put-field-requires-2
+    (λ c κs. search needs)  -- put-field-requires-3
     (λ c. search needs)  -- same-length
     returns)

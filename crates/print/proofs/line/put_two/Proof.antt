@@ -9,15 +9,6 @@ use Rattle.print.proofs.Fields.{join}
 use Rattle.print.proofs.line.put_two.Statement.{statement}
 use Rattle.print.proofs.line.put_two.Tie as tie
 
-put-start-requires : tie.Need-put-start-requires
-put-start-requires c κs = search needs
-
-put-field-requires : tie.Need-put-field-requires
-put-field-requires c κs = search needs
-
-put-field-requires-2 : tie.Need-put-field-requires-2
-put-field-requires-2 c κs = search needs
-
 returns : tie.Need-returns
 returns c =
     let d₃ = c .before .before in
@@ -32,8 +23,8 @@ pub put-two-spec : {M : Type 1} → statement M
 put-two-spec =
     tie.close
     (tie.spec
-    put-start-requires
-    put-field-requires
-    put-field-requires-2
+    (λ c κs. search needs)  -- put-start-requires
+    (λ c κs. search needs)  -- put-field-requires
+    (λ c κs. search needs)  -- put-field-requires-2
     (λ c. search needs)  -- same-length
     returns)

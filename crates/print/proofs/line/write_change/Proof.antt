@@ -10,24 +10,6 @@ use Rattle.print.proofs.Fields.{join}
 use Rattle.print.proofs.line.write_change.Statement.{statement}
 use Rattle.print.proofs.line.write_change.Tie as tie
 
-put-text-requires : tie.Need-put-text-requires
-put-text-requires c κs = search needs
-
-put-field-requires : tie.Need-put-field-requires
-put-field-requires c κs = search needs
-
-put-field-requires-2 : tie.Need-put-field-requires-2
-put-field-requires-2 c κs = search needs
-
-put-field-requires-3 : tie.Need-put-field-requires-3
-put-field-requires-3 c κs = search needs
-
-put-link-requires : tie.Need-put-link-requires
-put-link-requires c κs = search needs
-
-put-link-requires-2 : tie.Need-put-link-requires-2
-put-link-requires-2 c κs = search needs
-
 returns : tie.Need-returns
 unfolding change
 returns c =
@@ -50,11 +32,11 @@ write-change-spec =
     tie.close
     (tie.spec
     (λ c. search needs)  -- slice-aggregate-put-text
-    put-text-requires
-    put-field-requires
-    put-field-requires-2
-    put-field-requires-3
-    put-link-requires
-    put-link-requires-2
+    (λ c κs. search needs)  -- put-text-requires
+    (λ c κs. search needs)  -- put-field-requires
+    (λ c κs. search needs)  -- put-field-requires-2
+    (λ c κs. search needs)  -- put-field-requires-3
+    (λ c κs. search needs)  -- put-link-requires
+    (λ c κs. search needs)  -- put-link-requires-2
     (λ c. search needs)  -- same-length
     returns)

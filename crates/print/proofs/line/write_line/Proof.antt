@@ -8,36 +8,6 @@ use Rattle.print.proofs.Writes.{also}
 use Rattle.print.proofs.line.write_line.Statement.{statement}
 use Rattle.print.proofs.line.write_line.Tie as tie
 
-put-start-requires : tie.Need-put-start-requires
-put-start-requires c κs = search needs
-
-put-one-requires : tie.Need-put-one-requires
-put-one-requires c κs = search needs
-
-put-start-requires-2 : tie.Need-put-start-requires-2
-put-start-requires-2 c κs = search needs
-
-put-one-requires-2 : tie.Need-put-one-requires-2
-put-one-requires-2 c κs = search needs
-
-put-two-requires : tie.Need-put-two-requires
-put-two-requires c κs = search needs
-
-put-start-requires-3 : tie.Need-put-start-requires-3
-put-start-requires-3 c κs = search needs
-
-put-fate-requires : tie.Need-put-fate-requires
-put-fate-requires c κs = search needs
-
-put-one-requires-3 : tie.Need-put-one-requires-3
-put-one-requires-3 c κs = search needs
-
-put-start-requires-4 : tie.Need-put-start-requires-4
-put-start-requires-4 c κs = search needs
-
-put-tally-requires : tie.Need-put-tally-requires
-put-tally-requires c κs = search needs
-
 returns : tie.Need-returns
 unfolding line word values said
 returns c =
@@ -114,35 +84,35 @@ write-line-spec =
     (tie.spec
     (λ c. search needs)  -- enum-told
     (λ c. search needs)  -- slice-aggregate-put-start
-    put-start-requires
+    (λ c κs. search needs)  -- put-start-requires
     (λ c. search needs)  -- enum-known-answer
     (λ c. search needs)  -- slice-aggregate-put-one
     (λ c. search needs)  -- cast-put-one
-    put-one-requires
+    (λ c κs. search needs)  -- put-one-requires
     (λ c. search needs)  -- enum-told-2
     (λ c. search needs)  -- slice-aggregate-put-start-2
-    put-start-requires-2
+    (λ c κs. search needs)  -- put-start-requires-2
     (λ c. search needs)  -- enum-known-answer-2
     (λ c. search needs)  -- slice-aggregate-put-one-2
     (λ c. search needs)  -- cast-put-one-2
-    put-one-requires-2
+    (λ c κs. search needs)  -- put-one-requires-2
     (λ c. search needs)  -- enum-known-answer-3
     (λ c. search needs)  -- slice-aggregate-put-two
     (λ c. search needs)  -- cast-put-two
-    put-two-requires
+    (λ c κs. search needs)  -- put-two-requires
     (λ c. search needs)  -- enum-told-3
     (λ c. search needs)  -- slice-aggregate-put-start-3
-    put-start-requires-3
+    (λ c κs. search needs)  -- put-start-requires-3
     (λ c. search needs)  -- enum-known-answer-4
-    put-fate-requires
+    (λ c κs. search needs)  -- put-fate-requires
     (λ c. search needs)  -- enum-known-answer-5
     (λ c. search needs)  -- slice-aggregate-put-one-3
-    put-one-requires-3
+    (λ c κs. search needs)  -- put-one-requires-3
     (λ c. search needs)  -- enum-told-4
     (λ c. search needs)  -- slice-aggregate-put-start-4
-    put-start-requires-4
+    (λ c κs. search needs)  -- put-start-requires-4
     (λ c. search needs)  -- enum-known-answer-6
-    put-tally-requires
+    (λ c κs. search needs)  -- put-tally-requires
     (λ c. search needs)  -- same-length
     returns
     (λ c. search needs)  -- same-length-2

@@ -7,9 +7,6 @@ use Rattle.print.proofs.Words.{eight-bytes, eight-stores}
 use Rattle.print.proofs.number.put_eight.Statement.{statement}
 use Rattle.print.proofs.number.put_eight.Tie as tie
 
-pack-eight-requires : tie.Need-pack-eight-requires
-pack-eight-requires c κs = search needs
-
 slice-write-buf-2 : tie.Need-slice-write-buf-2
 slice-write-buf-2 c = simp length-set (omega arith)
 
@@ -43,7 +40,7 @@ pub put-eight-spec : {M : Type 1} → statement M
 put-eight-spec =
     tie.close
     (tie.spec
-    pack-eight-requires
+    (λ c κs. search needs)  -- pack-eight-requires
     (λ c. search needs)  -- cast-buf
     (λ c. search needs)  -- slice-write-buf
     (λ c. search needs)  -- cast-buf-2

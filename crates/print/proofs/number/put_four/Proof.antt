@@ -7,9 +7,6 @@ use Rattle.print.proofs.Words.{four-bytes, four-stores}
 use Rattle.print.proofs.number.put_four.Statement.{statement}
 use Rattle.print.proofs.number.put_four.Tie as tie
 
-pack-four-requires : tie.Need-pack-four-requires
-pack-four-requires c κs = search needs
-
 slice-write-buf-2 : tie.Need-slice-write-buf-2
 slice-write-buf-2 c = simp length-set (omega arith)
 
@@ -28,7 +25,7 @@ pub put-four-spec : {M : Type 1} → statement M
 put-four-spec =
     tie.close
     (tie.spec
-    pack-four-requires
+    (λ c κs. search needs)  -- pack-four-requires
     (λ c. search needs)  -- cast-buf
     (λ c. search needs)  -- slice-write-buf
     (λ c. search needs)  -- cast-buf-2

@@ -7,32 +7,17 @@ use Rattle.print.proofs.Digits.{one, two, more}
 use Rattle.print.proofs.number.put_head.Statement.{statement}
 use Rattle.print.proofs.number.put_head.Tie as tie
 
-put-byte-requires : tie.Need-put-byte-requires
-put-byte-requires c κs = search needs
-
 returns : tie.Need-returns
 returns c =
     let d = c .before .before in
     let n = d .before .before .before .before .args .n in
     also (sym (one n (omega arith))) (omega arith) (d .put-byte .ensures)
 
-put-pair-requires : tie.Need-put-pair-requires
-put-pair-requires c κs = search needs
-
 returns-2 : tie.Need-returns-2
 returns-2 c =
     let d = c .before .before in
     let n = d .before .before .before .before .before .args .n in
     also (sym (two n (omega arith) (omega arith))) (omega arith) (d .put-pair .ensures)
-
-put-middle-requires : tie.Need-put-middle-requires
-put-middle-requires c κs = search needs
-
-put-middle-requires-2 : tie.Need-put-middle-requires-2
-put-middle-requires-2 c κs = search needs
-
-put-four-requires : tie.Need-put-four-requires
-put-four-requires c κs = search needs
 
 returns-4 : tie.Need-returns-4
 returns-4 c =
@@ -46,20 +31,20 @@ put-head-spec =
     (tie.spec
     (λ c. search needs)  -- cast-put-byte
     (λ c. search needs)  -- add-put-byte
-    put-byte-requires
+    (λ c κs. search needs)  -- put-byte-requires
     (λ c. search needs)  -- same-length
     returns
     (λ c. search needs)  -- cast-put-pair
-    put-pair-requires
+    (λ c κs. search needs)  -- put-pair-requires
     (λ c. search needs)  -- same-length-2
     returns-2
     (λ c. search needs)  -- cast-put-middle
-    put-middle-requires
+    (λ c κs. search needs)  -- put-middle-requires
     (λ c. search needs)  -- same-length-3
     (λ c. search needs)  -- returns-3
     (λ c. search needs)  -- cast-put-middle-2
-    put-middle-requires-2
+    (λ c κs. search needs)  -- put-middle-requires-2
     (λ c. search needs)  -- cast-put-four
-    put-four-requires
+    (λ c κs. search needs)  -- put-four-requires
     (λ c. search needs)  -- same-length-4
     returns-4)

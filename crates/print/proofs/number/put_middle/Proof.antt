@@ -7,15 +7,6 @@ use Rattle.print.proofs.Digits.{more}
 use Rattle.print.proofs.number.put_middle.Statement.{statement}
 use Rattle.print.proofs.number.put_middle.Tie as tie
 
-put-small-requires : tie.Need-put-small-requires
-put-small-requires c κs = search needs
-
-put-small-requires-2 : tie.Need-put-small-requires-2
-put-small-requires-2 c κs = search needs
-
-put-four-requires : tie.Need-put-four-requires
-put-four-requires c κs = search needs
-
 returns-2 : tie.Need-returns-2
 returns-2 c =
     let d = c .before .before in
@@ -26,10 +17,10 @@ pub put-middle-spec : {M : Type 1} → statement M
 put-middle-spec =
     tie.close
     (tie.spec
-    put-small-requires
+    (λ c κs. search needs)  -- put-small-requires
     (λ c. search needs)  -- same-length
     (λ c. search needs)  -- returns
-    put-small-requires-2
-    put-four-requires
+    (λ c κs. search needs)  -- put-small-requires-2
+    (λ c κs. search needs)  -- put-four-requires
     (λ c. search needs)  -- same-length-2
     returns-2)

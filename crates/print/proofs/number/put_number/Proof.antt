@@ -7,15 +7,6 @@ use Rattle.print.proofs.Digits.{most}
 use Rattle.print.proofs.number.put_number.Statement.{statement}
 use Rattle.print.proofs.number.put_number.Tie as tie
 
-put-middle-requires : tie.Need-put-middle-requires
-put-middle-requires c κs = search needs
-
-put-head-requires : tie.Need-put-head-requires
-put-head-requires c κs = search needs
-
-put-eight-requires : tie.Need-put-eight-requires
-put-eight-requires c κs = search needs
-
 returns-2 : tie.Need-returns-2
 returns-2 c =
     let d = c .before .before in
@@ -27,11 +18,11 @@ put-number-spec =
     tie.close
     (tie.spec
     (λ c. search needs)  -- cast-put-middle
-    put-middle-requires
+    (λ c κs. search needs)  -- put-middle-requires
     (λ c. search needs)  -- same-length
     (λ c. search needs)  -- returns
-    put-head-requires
+    (λ c κs. search needs)  -- put-head-requires
     (λ c. search needs)  -- cast-put-eight
-    put-eight-requires
+    (λ c κs. search needs)  -- put-eight-requires
     (λ c. search needs)  -- same-length-2
     returns-2)

@@ -7,17 +7,11 @@ use Rattle.print.proofs.Digits.{one, two}
 use Rattle.print.proofs.number.put_short.Statement.{statement}
 use Rattle.print.proofs.number.put_short.Tie as tie
 
-put-byte-requires : tie.Need-put-byte-requires
-put-byte-requires c κs = search needs
-
 returns : tie.Need-returns
 returns c =
     let d = c .before .before in
     let n = d .before .before .before .before .args .n in
     also (sym (one n (omega arith))) (omega arith) (d .put-byte .ensures)
-
-put-pair-requires : tie.Need-put-pair-requires
-put-pair-requires c κs = search needs
 
 returns-2 : tie.Need-returns-2
 returns-2 c =
@@ -25,22 +19,19 @@ returns-2 c =
     let n = d .before .before .before .before .before .args .n in
     also (sym (two n (omega arith) (omega arith))) (omega arith) (d .put-pair .ensures)
 
-put-number-requires : tie.Need-put-number-requires
-put-number-requires c κs = search needs
-
 pub put-short-spec : {M : Type 1} → statement M
 put-short-spec =
     tie.close
     (tie.spec
     (λ c. search needs)  -- cast-put-byte
     (λ c. search needs)  -- add-put-byte
-    put-byte-requires
+    (λ c κs. search needs)  -- put-byte-requires
     (λ c. search needs)  -- same-length
     returns
     (λ c. search needs)  -- cast-put-pair
-    put-pair-requires
+    (λ c κs. search needs)  -- put-pair-requires
     (λ c. search needs)  -- same-length-2
     returns-2
-    put-number-requires
+    (λ c κs. search needs)  -- put-number-requires
     (λ c. search needs)  -- same-length-3
     (λ c. search needs))  -- returns-3

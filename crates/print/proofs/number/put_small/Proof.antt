@@ -7,16 +7,10 @@ use Rattle.print.proofs.Digits.{one, two, three, four-digits}
 use Rattle.print.proofs.number.put_small.Statement.{statement}
 use Rattle.print.proofs.number.put_small.Tie as tie
 
-put-byte-requires : tie.Need-put-byte-requires
-put-byte-requires c κs = search needs
-
 returns : tie.Need-returns
 returns c =
     let d = c .before .before in
     also (sym (one (c .before .before .before .before .before .before .args .n) (search needs))) (omega arith) (d .put-byte .ensures)
-
-put-pair-requires : tie.Need-put-pair-requires
-put-pair-requires c κs = search needs
 
 returns-2 : tie.Need-returns-2
 returns-2 c =
@@ -24,20 +18,11 @@ returns-2 c =
     let n = d .before .before .before .before .before .args .n in
     also (sym (two n (omega arith) (omega arith))) (omega arith) (d .put-pair .ensures)
 
-put-byte-requires-2 : tie.Need-put-byte-requires-2
-put-byte-requires-2 c κs = search needs
-
-put-pair-requires-2 : tie.Need-put-pair-requires-2
-put-pair-requires-2 c κs = search needs
-
 returns-3 : tie.Need-returns-3
 returns-3 c =
     let d = c .before .before in
     let n = d .before .before .before .before .before .before .before .before .before .before .args .n in
     also (sym (three n (omega arith) (omega arith))) (omega arith) (both (d .before .before .before .before .put-byte2 .ensures) (d .put-pair2 .ensures))
-
-put-four-requires : tie.Need-put-four-requires
-put-four-requires c κs = search needs
 
 returns-4 : tie.Need-returns-4
 returns-4 c =
@@ -51,18 +36,18 @@ put-small-spec =
     (tie.spec
     (λ c. search needs)  -- cast-put-byte
     (λ c. search needs)  -- add-put-byte
-    put-byte-requires
+    (λ c κs. search needs)  -- put-byte-requires
     (λ c. search needs)  -- same-length
     returns
-    put-pair-requires
+    (λ c κs. search needs)  -- put-pair-requires
     (λ c. search needs)  -- same-length-2
     returns-2
     (λ c. search needs)  -- cast-put-byte-2
     (λ c. search needs)  -- add-put-byte-2
-    put-byte-requires-2
-    put-pair-requires-2
+    (λ c κs. search needs)  -- put-byte-requires-2
+    (λ c κs. search needs)  -- put-pair-requires-2
     (λ c. search needs)  -- same-length-3
     returns-3
-    put-four-requires
+    (λ c κs. search needs)  -- put-four-requires
     (λ c. search needs)  -- same-length-4
     returns-4)

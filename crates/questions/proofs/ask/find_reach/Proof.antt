@@ -18,9 +18,6 @@ abbrev μ-loop : tie.MeasureT-loop
 places-requires : tie.Need-places-requires Inv-loop μ-loop
 places-requires c κs = c .pre .0 .sound .cuts .room
 
-toward-walks-requires : tie.Need-toward-walks-requires Inv-loop μ-loop
-toward-walks-requires c κs = search needs
-
 shr-if1 : tie.Need-shr-if1 Inv-loop μ-loop
 shr-if1 c =
     let s = c .before .before in
@@ -33,9 +30,6 @@ returns c =
 
 loop-holds : tie.Need-loop-holds Inv-loop μ-loop
 loop-holds c = (omega arith, λ q l. absurd (omega arith))
-
-atom-at-requires : tie.Need-atom-at-requires Inv-loop μ-loop
-atom-at-requires c κs = search needs
 
 comes-to-requires : tie.Need-comes-to-requires Inv-loop μ-loop
 comes-to-requires c κs =
@@ -66,11 +60,11 @@ find-reach-spec =
     Inv-loop
     μ-loop
     places-requires
-    toward-walks-requires
+    (λ c κs. search needs)  -- toward-walks-requires
     shr-if1
     returns
     loop-holds
-    atom-at-requires
+    (λ c κs. search needs)  -- atom-at-requires
     comes-to-requires
     (λ c. search needs)  -- mul-t21
     (λ c. search needs)  -- element-copy-out-t24

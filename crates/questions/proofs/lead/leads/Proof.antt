@@ -17,9 +17,6 @@ abbrev μ-loop : tie.MeasureT-loop
 loop-holds : tie.Need-loop-holds Inv-loop μ-loop
 loop-holds c = (omega arith, leads-none _ _ _)
 
-note-link-requires : tie.Need-note-link-requires Inv-loop μ-loop
-note-link-requires c κs = search needs
-
 returns : tie.Need-returns Inv-loop μ-loop
 returns c =
     let s = c .before in
@@ -33,7 +30,7 @@ leads-spec =
     Inv-loop
     μ-loop
     loop-holds
-    note-link-requires
+    (λ c κs. search needs)  -- note-link-requires
     (λ c. search needs)  -- add-l
     (λ c. search needs)  -- loop-less
     (λ c. search needs)  -- loop-again

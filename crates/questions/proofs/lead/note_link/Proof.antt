@@ -8,17 +8,8 @@ use Rattle.questions.proofs.lead.note_link.Tie as tie
 returns : tie.Need-returns
 returns c = leads-out _ _ _ _ (c .before .before .pre .1) (c .if1 .taken)
 
-source-of-requires : tie.Need-source-of-requires
-source-of-requires c κs = search needs
-
 returns-2 : tie.Need-returns-2
 returns-2 c = leads-from _ _ _ _ (c .before .before .before .before .before .pre .1) (omega arith)
-
-carries-requires : tie.Need-carries-requires
-carries-requires c κs = search needs
-
-join-requires : tie.Need-join-requires
-join-requires c κs = search needs
 
 returns-3 : tie.Need-returns-3
 returns-3 c =
@@ -37,9 +28,9 @@ note-link-spec =
     returns
     (λ c. search needs)  -- mul-source-of
     (λ c. search needs)  -- element-copy-out-source-of
-    source-of-requires
+    (λ c κs. search needs)  -- source-of-requires
     returns-2
-    carries-requires
-    join-requires
+    (λ c κs. search needs)  -- carries-requires
+    (λ c κs. search needs)  -- join-requires
     returns-3
     returns-4)

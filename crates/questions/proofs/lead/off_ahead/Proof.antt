@@ -16,9 +16,6 @@ abbrev μ-loop : tie.MeasureT-loop
 loop-holds : tie.Need-loop-holds Inv-loop μ-loop
 loop-holds c = (omega arith, off-none _)
 
-off-once-requires : tie.Need-off-once-requires Inv-loop μ-loop
-off-once-requires c κs = search needs
-
 pub off-ahead-spec : {M : Type 1} → statement M
 off-ahead-spec =
     tie.close
@@ -26,7 +23,7 @@ off-ahead-spec =
     Inv-loop
     μ-loop
     loop-holds
-    off-once-requires
+    (λ c κs. search needs)  -- off-once-requires
     (λ c. search needs)  -- returns
     (λ c. search needs)  -- add-i
     (λ c. search needs)  -- loop-less

@@ -13,12 +13,6 @@ Inv-loop lead off₀ i₀ off i = (i ≤ 16) × OffLeads lead off
 abbrev μ-loop : tie.MeasureT-loop
 μ-loop lead off₀ i₀ off i = 16 - i
 
-off-ahead-requires : tie.Need-off-ahead-requires Inv-loop μ-loop
-off-ahead-requires c κs = search needs
-
-led-to-requires : tie.Need-led-to-requires Inv-loop μ-loop
-led-to-requires c κs = search needs
-
 loop-again : tie.Need-loop-again Inv-loop μ-loop
 loop-again c = let t = c .before in (omega arith, off-unmet _ _ _ (t .before .before .loop .inv .1) (t .led-to .ensures))
 
@@ -28,10 +22,10 @@ off-leads-spec =
     (tie.spec
     Inv-loop
     μ-loop
-    off-ahead-requires
+    (λ c κs. search needs)  -- off-ahead-requires
     (λ c. search needs)  -- returns
     (λ c. search needs)  -- loop-holds
-    led-to-requires
+    (λ c κs. search needs)  -- led-to-requires
     (λ c. search needs)  -- returns-2
     (λ c. search needs)  -- add-i
     (λ c. search needs)  -- loop-less

@@ -4,14 +4,11 @@ use Rattle.questions.proofs.Leads.{off-walks}
 use Rattle.questions.proofs.lead.off_walks.Statement.{statement}
 use Rattle.questions.proofs.lead.off_walks.Tie as tie
 
-leads-requires : tie.Need-leads-requires
-leads-requires c κs = search needs
-
-off-leads-requires : tie.Need-off-leads-requires
-off-leads-requires c κs = search needs
-
 returns : tie.Need-returns
 returns c = off-walks _ _ _ _ (c .before .before .leads .ensures) (c .off-leads .ensures)
 
 pub off-walks-spec : {M : Type 1} → statement M
-off-walks-spec = tie.close (tie.spec leads-requires off-leads-requires returns)
+off-walks-spec = tie.close (tie.spec
+    (λ c κs. search needs)  -- leads-requires
+    (λ c κs. search needs)  -- off-leads-requires
+    returns)

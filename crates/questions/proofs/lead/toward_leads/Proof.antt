@@ -18,9 +18,6 @@ abbrev μ-loop : tie.MeasureT-loop
 loop-holds : tie.Need-loop-holds Inv-loop μ-loop
 loop-holds c = (omega arith, toward-start _)
 
-toward-once-requires : tie.Need-toward-once-requires Inv-loop μ-loop
-toward-once-requires c κs = search needs
-
 returns : tie.Need-returns Inv-loop μ-loop
 returns c = toward-settled _ _ _ _ (c .before .before .before .loop .inv .1) (c .before .toward-once .ensures) (c .if1 .taken)
 
@@ -39,7 +36,7 @@ toward-leads-spec =
     (λ c. search needs)  -- cast-to
     (λ c. search needs)  -- shl-to
     loop-holds
-    toward-once-requires
+    (λ c κs. search needs)  -- toward-once-requires
     returns
     (λ c. search needs)  -- add-i
     (λ c. search needs)  -- loop-less

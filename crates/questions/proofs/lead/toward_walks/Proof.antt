@@ -4,14 +4,11 @@ use Rattle.questions.proofs.Leads.{toward-walks}
 use Rattle.questions.proofs.lead.toward_walks.Statement.{statement}
 use Rattle.questions.proofs.lead.toward_walks.Tie as tie
 
-leads-requires : tie.Need-leads-requires
-leads-requires c κs = search needs
-
-toward-leads-requires : tie.Need-toward-leads-requires
-toward-leads-requires c κs = search needs
-
 returns : tie.Need-returns
 returns c = toward-walks _ _ _ _ _ (c .before .before .leads .ensures) (c .toward-leads .ensures)
 
 pub toward-walks-spec : {M : Type 1} → statement M
-toward-walks-spec = tie.close (tie.spec leads-requires toward-leads-requires returns)
+toward-walks-spec = tie.close (tie.spec
+    (λ c κs. search needs)  -- leads-requires
+    (λ c κs. search needs)  -- toward-leads-requires
+    returns)

@@ -5,18 +5,6 @@ use borrow.Author.Needs.{needs}
 use Rattle.questions.proofs.stand.divide.Statement.{statement}
 use Rattle.questions.proofs.stand.divide.Tie as tie
 
-spread-requires : tie.Need-spread-requires
-spread-requires c κs = search needs
-
-outward-requires : tie.Need-outward-requires
-outward-requires c κs = search needs
-
-stay-requires : tie.Need-stay-requires
-stay-requires c κs = search needs
-
-gather-requires : tie.Need-gather-requires
-gather-requires c κs = search needs
-
 returns : tie.Need-returns
 returns c =
     let t = c .before .before in
@@ -26,4 +14,9 @@ returns c =
 
 pub divide-spec : {M : Type 1} → statement M
 divide-spec =
-    tie.close (tie.spec spread-requires outward-requires stay-requires gather-requires returns)
+    tie.close (tie.spec
+    (λ c κs. search needs)  -- spread-requires
+    (λ c κs. search needs)  -- outward-requires
+    (λ c κs. search needs)  -- stay-requires
+    (λ c κs. search needs)  -- gather-requires
+    returns)

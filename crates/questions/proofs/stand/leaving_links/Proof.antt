@@ -22,9 +22,6 @@ loop-holds c = (omega arith, leaving-none _ _ (c .pre .1))
 shl-leaving : tie.Need-shl-leaving Inv-loop μ-loop
 shl-leaving c = omega (arith, c .before .before .before .before .pre .0 .few)
 
-source-of-requires : tie.Need-source-of-requires Inv-loop μ-loop
-source-of-requires c κs = search needs
-
 element-copy-out-leaving : tie.Need-element-copy-out-leaving Inv-loop μ-loop
 element-copy-out-leaving c = rw (c .source-of .ensures .0) (c .before .before .before .before .before .pre .0 .source _ (omega arith))
 
@@ -59,7 +56,7 @@ leaving-links-spec =
     (λ c. search needs)  -- mul-word
     (λ c. search needs)  -- element-copy-out-word
     shl-leaving
-    source-of-requires
+    (λ c κs. search needs)  -- source-of-requires
     (λ c. search needs)  -- mul-leaving
     element-copy-out-leaving
     element-write-leaving

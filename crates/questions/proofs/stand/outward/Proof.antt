@@ -19,9 +19,6 @@ abbrev μ-loop : tie.MeasureT-loop
 loop-holds : tie.Need-loop-holds Inv-loop μ-loop
 loop-holds c = (omega arith, outward-none _ _ _ (c .pre .1))
 
-source-of-requires : tie.Need-source-of-requires Inv-loop μ-loop
-source-of-requires c κs = search needs
-
 join-row-requires : tie.Need-join-row-requires Inv-loop μ-loop
 join-row-requires c κs =
     let l = c .before .before .before .before .before in
@@ -55,7 +52,7 @@ outward-spec =
     loop-holds
     (λ c. search needs)  -- mul-word
     (λ c. search needs)  -- element-copy-out-word
-    source-of-requires
+    (λ c κs. search needs)  -- source-of-requires
     join-row-requires
     (λ c. search needs)  -- add-l
     (λ c. search needs)  -- loop-less

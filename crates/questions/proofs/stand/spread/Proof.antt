@@ -13,9 +13,6 @@ Inv-loop link label links stand₀ v leaving from₀ i₀ stand from i = (i ≤ 
 abbrev μ-loop : tie.MeasureT-loop
 μ-loop link label links stand₀ v leaving from₀ i₀ stand from i = 15 - i
 
-fill-row-requires : tie.Need-fill-row-requires Inv-loop μ-loop
-fill-row-requires c κs = search needs
-
 leaving-links-requires : tie.Need-leaving-links-requires Inv-loop μ-loop
 leaving-links-requires c κs = (c .before .before .before .pre .0, refl)
 
@@ -49,7 +46,7 @@ spread-spec =
     (tie.spec
     Inv-loop
     μ-loop
-    fill-row-requires
+    (λ c κs. search needs)  -- fill-row-requires
     leaving-links-requires
     (λ c. search needs)  -- mul-from
     (λ c. search needs)  -- array-read-from

@@ -11,9 +11,6 @@ returns : tie.Need-returns
 unfolding endIn
 returns c = along-none _ _ _ _ _ (c .before .before .pre .3) (λ h. omega (arith, h, c .if1 .taken))
 
-source-of-requires : tie.Need-source-of-requires
-source-of-requires c κs = search needs
-
 join-row-requires : tie.Need-join-row-requires
 join-row-requires c κs =
     let p = c .before .before .before .before .pre in
@@ -39,7 +36,7 @@ spread-along-spec =
     (λ c. search needs)  -- mul-word
     (λ c. search needs)  -- element-copy-out-word
     returns
-    source-of-requires
+    (λ c κs. search needs)  -- source-of-requires
     (λ c. search needs)  -- cast-join-row
     join-row-requires
     returns-2

@@ -19,9 +19,6 @@ abbrev μ-loop : tie.MeasureT-loop
 loop-holds : tie.Need-loop-holds Inv-loop μ-loop
 loop-holds c = (omega arith, stayed-none _ _ _ (c .pre .2))
 
-source-of-requires : tie.Need-source-of-requires Inv-loop μ-loop
-source-of-requires c κs = search needs
-
 take-row-requires : tie.Need-take-row-requires Inv-loop μ-loop
 take-row-requires c κs =
     let l = c .before .before .before .before .before in
@@ -54,7 +51,7 @@ stay-spec =
     loop-holds
     (λ c. search needs)  -- mul-word
     (λ c. search needs)  -- element-copy-out-word
-    source-of-requires
+    (λ c κs. search needs)  -- source-of-requires
     take-row-requires
     (λ c. search needs)  -- add-l
     (λ c. search needs)  -- loop-less

@@ -32,9 +32,6 @@ returns-2 c =
     let l = c .before .before .before in
     sym (strayed _ _ _ _ _ _ _ (l .loop .inv .2) (l .loop .inv .3) (l .before .pre .4) (l .loop .inv .1) (c .if2 .taken) _)
 
-move-from-requires : tie.Need-move-from-requires Inv-loop μ-loop
-move-from-requires c κs = search needs
-
 returns-3 : tie.Need-returns-3 Inv-loop μ-loop
 unfolding led
 returns-3 c =
@@ -64,7 +61,7 @@ comes-to-spec =
     (λ c. search needs)  -- cast-if2
     (λ c. search needs)  -- shr-if2
     returns-2
-    move-from-requires
+    (λ c κs. search needs)  -- move-from-requires
     (λ c. search needs)  -- enum-known-u
     (λ c. search needs)  -- enum-told
     returns-3

@@ -3,11 +3,10 @@ use borrow.Author.Needs.{needs}
 use Rattle.questions.proofs.walk.follow.Statement.{statement}
 use Rattle.questions.proofs.walk.follow.Tie as tie
 
-stand-requires : tie.Need-stand-requires
-stand-requires c κs = search needs
-
 returns : tie.Need-returns
 returns c = c .stand .ensures
 
 pub follow-spec : {M : Type 1} → statement M
-follow-spec = tie.close (tie.spec stand-requires returns)
+follow-spec = tie.close (tie.spec
+    (λ c κs. search needs)  -- stand-requires
+    returns)

@@ -37,9 +37,6 @@ loop-holds c = (omega arith, omega arith, refl, (λ k h. absurd (omega arith)), 
 shl-passed : tie.Need-shl-passed Inv-loop μ-loop
 shl-passed c = omega arith
 
-move-from-requires : tie.Need-move-from-requires Inv-loop μ-loop
-move-from-requires c κs = search needs
-
 returns : tie.Need-returns Inv-loop μ-loop
 unfolding led seen
 returns c =
@@ -100,7 +97,7 @@ look-spec =
     loop-holds
     (λ c. search needs)  -- cast-passed
     shl-passed
-    move-from-requires
+    (λ c κs. search needs)  -- move-from-requires
     (λ c. search needs)  -- enum-known-w
     returns
     (λ c. search needs)  -- cast-if2

@@ -6,9 +6,6 @@ use Rattle.questions.specs.Moves.{led}
 use Rattle.questions.proofs.walk.move_from.Statement.{statement}
 use Rattle.questions.proofs.walk.move_from.Tie as tie
 
-owner-at-requires : tie.Need-owner-at-requires
-owner-at-requires c κs = search needs
-
 returns : tie.Need-returns
 unfolding led
 returns c = no-owner _ _ _ (c .before .before .pre .1) _ (rw (c .before .owner-at .ensures) at (c .if1 .taken))
@@ -32,7 +29,7 @@ pub move-from-spec : {M : Type 1} → statement M
 move-from-spec =
     tie.close
     (tie.spec
-    owner-at-requires
+    (λ c κs. search needs)  -- owner-at-requires
     returns
     (λ c. search needs)  -- cast-l
     (λ c. search needs)  -- mul-end

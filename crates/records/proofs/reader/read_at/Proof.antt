@@ -15,9 +15,6 @@ use Rattle.records.proofs.reader.read_at.Tie as tie
 returns : tie.Need-returns
 returns c = ap saidRead (read-past _ _ (c .if1 .taken))
 
-read-record-requires : tie.Need-read-record-requires
-read-record-requires c κs = search needs
-
 returns-2 : tie.Need-returns-2
 returns-2 c =
     let a = c .before .before .before .before .args in
@@ -31,5 +28,5 @@ read-at-spec =
     (λ c. search needs)  -- sub-read-record
     (λ c. search needs)  -- part-read-record-start
     (λ c. search needs)  -- part-read-record-end
-    read-record-requires
+    (λ c κs. search needs)  -- read-record-requires
     returns-2)

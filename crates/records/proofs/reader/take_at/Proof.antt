@@ -17,9 +17,6 @@ use Rattle.records.proofs.reader.take_at.Tie as tie
 after : (at p n : ℕ) (x y : Read) → x ≡ y → placeAfter at y ≡ at + n → p ≡ n → at + p ≡ placeAfter at x
 after at p n x y e f z = ap (λ (k : ℕ). at + k) z ∙ (sym f ∙ sym (ap (placeAfter at) e))
 
-read-at-requires : tie.Need-read-at-requires
-read-at-requires c κs = search needs
-
 add-t7 : tie.Need-add-t7
 add-t7 c =
     let a = c .before .before .before .before .args in
@@ -42,7 +39,7 @@ returns c =
 pub take-at-spec : {M : Type 1} → statement M
 take-at-spec =
     tie.close (tie.spec
-    read-at-requires
+    (λ c κs. search needs)  -- read-at-requires
     (λ c. search needs)  -- enum-known-read
     (λ c. search needs)  -- enum-told
     (λ c. search needs)  -- enum-told-2

@@ -5,12 +5,6 @@ use Rattle.meaning.proofs.records.Reading.{number-four}
 use Rattle.records.proofs.record.four.Statement.{statement}
 use Rattle.records.proofs.record.four.Tie as tie
 
-two-requires : tie.Need-two-requires
-two-requires c κs = search needs
-
-two-requires-2 : tie.Need-two-requires-2
-two-requires-2 c κs = search needs
-
 returns : tie.Need-returns
 returns c =
     omega (arith, number-four (c .before .before .before .args .s .now) (c .before .before .before .args .i), c .before .two .ensures, c .two2 .ensures)
@@ -19,11 +13,11 @@ pub four-spec : {M : Type 1} → statement M
 four-spec =
     tie.close
     (tie.spec
-    two-requires
+    (λ c κs. search needs)  -- two-requires
     (λ c. search needs)  -- cast-result
     (λ c. search needs)  -- mul-result
     (λ c. search needs)  -- add-two
-    two-requires-2
+    (λ c κs. search needs)  -- two-requires-2
     (λ c. search needs)  -- cast-result-2
     (λ c. search needs)  -- add-result
     returns)

@@ -36,9 +36,6 @@ unknown b k h e = subst (λ (x : Body). bodyIn x k) e h
 returns : tie.Need-returns
 returns c = ap saidRead (read-end (c .before .before .args .s .now) (c .if1 .taken))
 
-body-of-requires : tie.Need-body-of-requires
-body-of-requires c κs = search needs
-
 add-if2 : tie.Need-add-if2
 add-if2 c =
     let k = known _ _ _ (c .before .before .before .body-of .ensures) (c .before .n .given .1) in
@@ -72,7 +69,7 @@ read-record-spec =
     (tie.spec
     returns
     (λ c. search needs)  -- shared-slice-read-body-of
-    body-of-requires
+    (λ c κs. search needs)  -- body-of-requires
     (λ c. search needs)  -- enum-known-n
     add-if2
     returns-2

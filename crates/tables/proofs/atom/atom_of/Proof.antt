@@ -7,9 +7,6 @@ use Rattle.tables.proofs.atom.atom_of.Tie as tie
 place-of-requires : tie.Need-place-of-requires
 place-of-requires c κs = held-whole _ _ _ (c .before .pre .held) .sound .cuts
 
-atom-at-requires : tie.Need-atom-at-requires
-atom-at-requires c κs = search needs
-
 returns : tie.Need-returns
 returns c = rw (c .atom-at .ensures, c .before .place-of .ensures .0)
 
@@ -17,5 +14,5 @@ pub atom-of-spec : {M : Type 1} → statement M
 atom-of-spec = tie.close (tie.spec
     (λ c. search needs)  -- cast-place-of
     place-of-requires
-    atom-at-requires
+    (λ c κs. search needs)  -- atom-at-requires
     returns)

@@ -16,15 +16,6 @@ abbrev μ-loop : tie.MeasureT-loop
 loop-holds : tie.Need-loop-holds Inv-loop μ-loop
 loop-holds c = (search needs, give-start _ _ _ _)
 
-owner-index-requires : tie.Need-owner-index-requires Inv-loop μ-loop
-owner-index-requires c κs = search needs
-
-owner-index-requires-2 : tie.Need-owner-index-requires-2 Inv-loop μ-loop
-owner-index-requires-2 c κs = search needs
-
-put-requires : tie.Need-put-requires Inv-loop μ-loop
-put-requires c κs = search needs
-
 loop-again : tie.Need-loop-again Inv-loop μ-loop
 loop-again c =
     let b = c .before .before .before in
@@ -49,14 +40,14 @@ give-spec =
     Inv-loop
     μ-loop
     loop-holds
-    owner-index-requires
+    (λ c κs. search needs)  -- owner-index-requires
     (λ c. search needs)  -- mul-e
     (λ c. search needs)  -- element-copy-out-e
-    owner-index-requires-2
+    (λ c κs. search needs)  -- owner-index-requires-2
     (λ c. search needs)  -- mul-owner
     (λ c. search needs)  -- element-write-owner
     (λ c. search needs)  -- cast-put
-    put-requires
+    (λ c κs. search needs)  -- put-requires
     (λ c. search needs)  -- add-v
     (λ c. search needs)  -- loop-less
     loop-again

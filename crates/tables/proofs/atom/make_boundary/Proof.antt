@@ -18,9 +18,6 @@ split c =
 numbered : (c : tie.Else1) → getD (now (c .before .before .before .before .args .number)) (c .before .before .place-of .result .0) 0 < c .before .before .before .before .args .n
 numbered c = c .before .before .before .before .pre .1 .small _ (split c .place)
 
-place-of-requires : tie.Need-place-of-requires
-place-of-requires c κs = search needs
-
 returns : tie.Need-returns
 returns c =
     let q = c .before .before .place-of in
@@ -29,9 +26,6 @@ returns c =
       split-kept e (s .pre .0 .room),
       λ m ec ed en W. kept-whole m (s .args .b) ec en e W,
     )
-
-atom-at-requires : tie.Need-atom-at-requires
-atom-at-requires c κs = search needs
 
 insert-cut-requires : tie.Need-insert-cut-requires
 insert-cut-requires c κs = let i = split (c .before .before .before) in (search needs, omega (arith, i .place, i .room))
@@ -60,11 +54,11 @@ pub make-boundary-spec : {M : Type 1} → statement M
 make-boundary-spec =
     tie.close
     (tie.spec
-    place-of-requires
+    (λ c κs. search needs)  -- place-of-requires
     (λ c. search needs)  -- mul-if1
     (λ c. search needs)  -- element-copy-out-if1
     returns
-    atom-at-requires
+    (λ c κs. search needs)  -- atom-at-requires
     (λ c. search needs)  -- cast-t19
     (λ c. search needs)  -- add-t13
     insert-cut-requires

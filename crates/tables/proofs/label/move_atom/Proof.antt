@@ -6,12 +6,6 @@ use borrow.Author.Needs.{needs}
 use Rattle.tables.proofs.label.move_atom.Statement.{statement}
 use Rattle.tables.proofs.label.move_atom.Tie as tie
 
-take-off-requires : tie.Need-take-off-requires
-take-off-requires c κs = search needs
-
-put-requires : tie.Need-put-requires
-put-requires c κs = search needs
-
 returns : tie.Need-returns
 returns c =
     put-second
@@ -25,4 +19,8 @@ returns-2 c =
     (search needs) _ (omega arith)
 
 pub move-atom-spec : {M : Type 1} → statement M
-move-atom-spec = tie.close (tie.spec take-off-requires put-requires returns returns-2)
+move-atom-spec = tie.close (tie.spec
+    (λ c κs. search needs)  -- take-off-requires
+    (λ c κs. search needs)  -- put-requires
+    returns
+    returns-2)

@@ -5,14 +5,8 @@ use Rattle.tables.proofs.Rules.{covers-below, covers-past, covers-betwe
 use Rattle.tables.proofs.rule.better_of.Statement.{statement}
 use Rattle.tables.proofs.rule.better_of.Tie as tie
 
-lower-of-requires : tie.Need-lower-of-requires
-lower-of-requires c κs = search needs
-
 returns : tie.Need-returns
 returns c = (keep-out _ _ _ _ (covers-below _ _ _ (c .before .lower-of .ensures .0) (c .if1 .taken)), search needs)
-
-upper-of-requires : tie.Need-upper-of-requires
-upper-of-requires c κs = search needs
 
 returns-2 : tie.Need-returns-2
 returns-2 c =
@@ -24,12 +18,6 @@ returns-3 c =
     let u = c .before .before in
     let l = u .before .before in
     (take-first _ _ _ _ (covers-between _ _ _ _ (l .lower-of .ensures .0) (u .upper-of .ensures .0) (u .before .if1 .left) (c .before .if2 .left)) (c .if3 .taken), search needs)
-
-rank-of-requires : tie.Need-rank-of-requires
-rank-of-requires c κs = search needs
-
-rank-of-requires-2 : tie.Need-rank-of-requires-2
-rank-of-requires-2 c κs = search needs
 
 returns-4 : tie.Need-returns-4
 returns-4 c =
@@ -55,14 +43,14 @@ better-of-spec =
     (tie.spec
     (λ c. search needs)  -- mul-x
     (λ c. search needs)  -- element-copy-out-x
-    lower-of-requires
+    (λ c κs. search needs)  -- lower-of-requires
     returns
-    upper-of-requires
+    (λ c κs. search needs)  -- upper-of-requires
     returns-2
     returns-3
     (λ c. search needs)  -- mul-rank-of
     (λ c. search needs)  -- element-copy-out-rank-of
-    rank-of-requires
-    rank-of-requires-2
+    (λ c κs. search needs)  -- rank-of-requires
+    (λ c κs. search needs)  -- rank-of-requires-2
     returns-4
     returns-5)

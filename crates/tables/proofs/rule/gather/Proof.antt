@@ -15,23 +15,8 @@ Inv-loop link rule v w among₀ here count₀ i₀ among count i =
 abbrev μ-loop : tie.MeasureT-loop
 μ-loop link rule v w among₀ here count₀ i₀ among count i = 256 - i
 
-links-at-requires : tie.Need-links-at-requires Inv-loop μ-loop
-links-at-requires c κs = search needs
-
 loop-holds : tie.Need-loop-holds Inv-loop μ-loop
 loop-holds c = (search needs, search needs, search needs, gathered-none)
-
-take-in-requires : tie.Need-take-in-requires Inv-loop μ-loop
-take-in-requires c κs = search needs
-
-take-in-requires-2 : tie.Need-take-in-requires-2 Inv-loop μ-loop
-take-in-requires-2 c κs = search needs
-
-take-in-requires-3 : tie.Need-take-in-requires-3 Inv-loop μ-loop
-take-in-requires-3 c κs = search needs
-
-take-in-requires-4 : tie.Need-take-in-requires-4 Inv-loop μ-loop
-take-in-requires-4 c κs = search needs
 
 loop-again : tie.Need-loop-again Inv-loop μ-loop
 loop-again c =
@@ -55,15 +40,15 @@ gather-spec =
     (tie.spec
     Inv-loop
     μ-loop
-    links-at-requires
+    (λ c κs. search needs)  -- links-at-requires
     loop-holds
-    take-in-requires
+    (λ c κs. search needs)  -- take-in-requires
     (λ c. search needs)  -- add-take-in
-    take-in-requires-2
+    (λ c κs. search needs)  -- take-in-requires-2
     (λ c. search needs)  -- add-take-in-2
-    take-in-requires-3
+    (λ c κs. search needs)  -- take-in-requires-3
     (λ c. search needs)  -- add-take-in-3
-    take-in-requires-4
+    (λ c κs. search needs)  -- take-in-requires-4
     (λ c. search needs)  -- add-i
     (λ c. search needs)  -- loop-less
     loop-again

@@ -17,9 +17,6 @@ abbrev μ-loop : tie.MeasureT-loop
 loop-holds : tie.Need-loop-holds Inv-loop μ-loop
 loop-holds c = (search needs, lacks-none)
 
-rank-gap-requires : tie.Need-rank-gap-requires Inv-loop μ-loop
-rank-gap-requires c κs = search needs
-
 loop-again : tie.Need-loop-again Inv-loop μ-loop
 loop-again c = (search needs, lacks-more (c .before .before .before .loop .inv .1) (c .rank-gap .ensures .0))
 
@@ -37,7 +34,7 @@ lacks-rank-spec =
     loop-holds
     (λ c. search needs)  -- mul-rank-gap
     (λ c. search needs)  -- element-copy-out-rank-gap
-    rank-gap-requires
+    (λ c κs. search needs)  -- rank-gap-requires
     (λ c. search needs)  -- add-all
     (λ c. search needs)  -- add-i
     (λ c. search needs)  -- loop-less

@@ -19,12 +19,6 @@ abbrev μ-loop : tie.MeasureT-loop
 loop-holds : tie.Need-loop-holds Inv-loop μ-loop
 loop-holds c = (search needs, marked-none (search needs))
 
-source-of-requires : tie.Need-source-of-requires Inv-loop μ-loop
-source-of-requires c κs = search needs
-
-mask-of-requires : tie.Need-mask-of-requires Inv-loop μ-loop
-mask-of-requires c κs = search needs
-
 loop-again : tie.Need-loop-again Inv-loop μ-loop
 loop-again c =
     let l = c .before .before .before .before in (
@@ -47,8 +41,8 @@ links-at-spec =
     loop-holds
     (λ c. search needs)  -- mul-source-of
     (λ c. search needs)  -- element-copy-out-source-of
-    source-of-requires
-    mask-of-requires
+    (λ c κs. search needs)  -- source-of-requires
+    (λ c κs. search needs)  -- mask-of-requires
     (λ c. search needs)  -- mul-s
     (λ c. search needs)  -- slice-write-s
     (λ c. search needs)  -- add-l

@@ -4,18 +4,6 @@ use Rattle.tables.proofs.Rules.{overlaps-if, overlaps-not}
 use Rattle.tables.proofs.rule.overlaps.Statement.{statement}
 use Rattle.tables.proofs.rule.overlaps.Tie as tie
 
-lower-of-requires : tie.Need-lower-of-requires
-lower-of-requires c κs = search needs
-
-upper-of-requires : tie.Need-upper-of-requires
-upper-of-requires c κs = search needs
-
-lower-of-requires-2 : tie.Need-lower-of-requires-2
-lower-of-requires-2 c κs = search needs
-
-upper-of-requires-2 : tie.Need-upper-of-requires-2
-upper-of-requires-2 c κs = search needs
-
 returns : tie.Need-returns
 returns c =
     let d = c .before .before in
@@ -31,9 +19,9 @@ pub overlaps-spec : {M : Type 1} → statement M
 overlaps-spec =
     tie.close
     (tie.spec
-    lower-of-requires
-    upper-of-requires
-    lower-of-requires-2
-    upper-of-requires-2
+    (λ c κs. search needs)  -- lower-of-requires
+    (λ c κs. search needs)  -- upper-of-requires
+    (λ c κs. search needs)  -- lower-of-requires-2
+    (λ c κs. search needs)  -- upper-of-requires-2
     returns
     returns-2)

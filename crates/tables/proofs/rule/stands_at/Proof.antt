@@ -11,12 +11,6 @@ use Rattle.tables.proofs.rule.stands_at.Tie as tie
 returns : tie.Need-returns
 returns c = not-standing _ _ _ (c .if1 .taken)
 
-link-of-requires : tie.Need-link-of-requires
-link-of-requires c κs = search needs
-
-source-of-requires : tie.Need-source-of-requires
-source-of-requires c κs = search needs
-
 returns-2 : tie.Need-returns-2
 returns-2 c =
     let b = c .before .before in
@@ -28,8 +22,8 @@ stands-at-spec =
     tie.close
     (tie.spec
     returns
-    link-of-requires
+    (λ c κs. search needs)  -- link-of-requires
     (λ c. search needs)  -- mul-source-of
     (λ c. search needs)  -- element-copy-out-source-of
-    source-of-requires
+    (λ c κs. search needs)  -- source-of-requires
     returns-2)

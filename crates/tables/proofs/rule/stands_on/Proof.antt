@@ -5,15 +5,12 @@ use Rattle.tables.proofs.Rules.{live-marked}
 use Rattle.tables.proofs.rule.stands_on.Statement.{statement}
 use Rattle.tables.proofs.rule.stands_on.Tie as tie
 
-link-of-requires : tie.Need-link-of-requires
-link-of-requires c κs = search needs
-
 returns : tie.Need-returns
 returns c = live-marked _ (search needs) _ (now (c .before .before .args .here)) (c .before .link-of .ensures .0)
 
 pub stands-on-spec : {M : Type 1} → statement M
 stands-on-spec = tie.close (tie.spec
-    link-of-requires
+    (λ c κs. search needs)  -- link-of-requires
     (λ c. search needs)  -- mul-result
     (λ c. search needs)  -- element-copy-out-result
     returns)

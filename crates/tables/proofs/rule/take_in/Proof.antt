@@ -6,12 +6,6 @@ use Rattle.tables.proofs.Rules.{stands-marked, gathered-take, gathered-
 use Rattle.tables.proofs.rule.take_in.Statement.{statement}
 use Rattle.tables.proofs.rule.take_in.Tie as tie
 
-stands-on-requires : tie.Need-stands-on-requires
-stands-on-requires c κs = search needs
-
-overlaps-requires : tie.Need-overlaps-requires
-overlaps-requires c κs = search needs
-
 returns : tie.Need-returns
 returns c =
     let o = c .before .before in
@@ -33,8 +27,8 @@ take-in-spec =
     (tie.spec
     (λ c. search needs)  -- mul-x
     (λ c. search needs)  -- element-copy-out-x
-    stands-on-requires
-    overlaps-requires
+    (λ c κs. search needs)  -- stands-on-requires
+    (λ c κs. search needs)  -- overlaps-requires
     (λ c. search needs)  -- cast-numbers
     (λ c. search needs)  -- mul-numbers
     (λ c. search needs)  -- slice-write-numbers

@@ -19,17 +19,11 @@ Inv-loop link rule v w i₀ i = (i ≤ 256) × (anyBelow i (λ k. tying link v w
 abbrev μ-loop : tie.MeasureT-loop
 μ-loop link rule v w i₀ i = 256 - i
 
-lacks-rank-requires : tie.Need-lacks-rank-requires Inv-loop μ-loop
-lacks-rank-requires c κs = search needs
-
 returns : tie.Need-returns Inv-loop μ-loop
 returns c = ties-nowhere _ (now (c .before .before .args .rule)) _ _ (c .before .lacks-rank .ensures (c .if1 .taken))
 
 loop-holds : tie.Need-loop-holds Inv-loop μ-loop
 loop-holds c = (search needs, any-none _)
-
-ties-with-requires : tie.Need-ties-with-requires Inv-loop μ-loop
-ties-with-requires c κs = search needs
 
 returns-2 : tie.Need-returns-2 Inv-loop μ-loop
 returns-2 c =
@@ -50,12 +44,12 @@ ties-spec =
     (tie.spec
     Inv-loop
     μ-loop
-    lacks-rank-requires
+    (λ c κs. search needs)  -- lacks-rank-requires
     returns
     loop-holds
     (λ c. search needs)  -- mul-ties-with
     (λ c. search needs)  -- element-copy-out-ties-with
-    ties-with-requires
+    (λ c κs. search needs)  -- ties-with-requires
     returns-2
     (λ c. search needs)  -- add-i
     (λ c. search needs)  -- loop-less

@@ -5,22 +5,10 @@ use Rattle.tables.proofs.Rules.{ties-apart, ties-if, ties-elsewhere}
 use Rattle.tables.proofs.rule.ties_with.Statement.{statement}
 use Rattle.tables.proofs.rule.ties_with.Tie as tie
 
-rank-of-requires : tie.Need-rank-of-requires
-rank-of-requires c κs = search needs
-
-rank-of-requires-2 : tie.Need-rank-of-requires-2
-rank-of-requires-2 c κs = search needs
-
 returns : tie.Need-returns
 returns c =
     let b = c .before in
     ties-apart _ _ _ _ _ _ (b .before .rank-of .ensures .0) (b .rank-of2 .ensures .0) (c .if1 .taken)
-
-stands-at-requires : tie.Need-stands-at-requires
-stands-at-requires c κs = search needs
-
-overlaps-requires : tie.Need-overlaps-requires
-overlaps-requires c κs = search needs
 
 returns-2 : tie.Need-returns-2
 returns-2 c =
@@ -36,10 +24,10 @@ pub ties-with-spec : {M : Type 1} → statement M
 ties-with-spec =
     tie.close
     (tie.spec
-    rank-of-requires
-    rank-of-requires-2
+    (λ c κs. search needs)  -- rank-of-requires
+    (λ c κs. search needs)  -- rank-of-requires-2
     returns
-    stands-at-requires
-    overlaps-requires
+    (λ c κs. search needs)  -- stands-at-requires
+    (λ c κs. search needs)  -- overlaps-requires
     returns-2
     returns-3)

@@ -7,9 +7,6 @@ use Rattle.meaning.specs.Atoms.{isCut}
 use Rattle.tables.proofs.update.adds.Statement.{statement}
 use Rattle.tables.proofs.update.adds.Tie as tie
 
-place-of-requires : tie.Need-place-of-requires
-place-of-requires c κs = search needs
-
 returns : tie.Need-returns
 unfolding isCut
 returns c =
@@ -26,7 +23,7 @@ returns-2 c =
 
 pub adds-spec : {M : Type 1} → statement M
 adds-spec = tie.close (tie.spec
-    place-of-requires
+    (λ c κs. search needs)  -- place-of-requires
     (λ c. search needs)  -- mul-if1
     (λ c. search needs)  -- element-copy-out-if1
     returns

@@ -3,24 +3,6 @@ use borrow.Author.Needs.{needs}
 use Rattle.tables.proofs.update.change_owner.Statement.{statement}
 use Rattle.tables.proofs.update.change_owner.Tie as tie
 
-atom-at-requires : tie.Need-atom-at-requires
-atom-at-requires c κs = search needs
-
-owner-index-requires : tie.Need-owner-index-requires
-owner-index-requires c κs = search needs
-
-via-of-requires : tie.Need-via-of-requires
-via-of-requires c κs = search needs
-
-via-of-requires-2 : tie.Need-via-of-requires-2
-via-of-requires-2 c κs = search needs
-
-move-atom-requires : tie.Need-move-atom-requires
-move-atom-requires c κs = search needs
-
-write-entry-requires : tie.Need-write-entry-requires
-write-entry-requires c κs = search needs
-
 returns : tie.Need-returns
 returns c =
     let m = c .before .before .before .before .before .before in
@@ -35,18 +17,18 @@ pub change-owner-spec : {M : Type 1} → statement M
 change-owner-spec =
     tie.close
     (tie.spec
-    atom-at-requires
-    owner-index-requires
+    (λ c κs. search needs)  -- atom-at-requires
+    (λ c κs. search needs)  -- owner-index-requires
     (λ c. search needs)  -- mul-owner
     (λ c. search needs)  -- element-write-owner
-    via-of-requires
-    via-of-requires-2
-    move-atom-requires
+    (λ c κs. search needs)  -- via-of-requires
+    (λ c κs. search needs)  -- via-of-requires-2
+    (λ c κs. search needs)  -- move-atom-requires
     (λ c. search needs)  -- mul-write-entry
     (λ c. search needs)  -- element-copy-out-write-entry
     (λ c. search needs)  -- add-write-entry
     (λ c. search needs)  -- mul-write-entry-2
     (λ c. search needs)  -- element-copy-out-write-entry-2
-    write-entry-requires
+    (λ c κs. search needs)  -- write-entry-requires
     (λ c. search needs)  -- same-length
     returns)

@@ -34,9 +34,6 @@ returns-4 c =
     let f = l .before .before .before in
     λ number. sym (length-high _ _ _ _ _ _ (f .before .before .if1 .left) (f .if2 .left) (l .if3 .left) (c .if4 .taken))
 
-is-ragged-requires : tie.Need-is-ragged-requires
-is-ragged-requires c κs = search needs
-
 returns-5 : tie.Need-returns-5
 unfolding checked ruleAt
 returns-5 c =
@@ -44,15 +41,6 @@ returns-5 c =
     let l = n .before .before in
     let f = l .before .before .before in
     λ number. sym (prefix-ragged _ _ _ _ _ _ (f .before .before .if1 .left) (f .if2 .left) (l .if3 .left) (n .if4 .left) (sym (c .before .is-ragged .ensures) ∙ c .if5 .taken))
-
-pack-requires : tie.Need-pack-requires
-pack-requires c κs = search needs
-
-source-of-requires : tie.Need-source-of-requires
-source-of-requires c κs = search needs
-
-ties-requires : tie.Need-ties-requires
-ties-requires c κs = search needs
 
 abbrev start : tie.After-ties → tie.Start
 start s = s .before .before .before .before .before .before .before .before .before .before .before .before .before .before .before
@@ -86,18 +74,6 @@ returns-6 : tie.Need-returns-6
 unfolding checked
 returns-6 c = λ number. insert-ties (tried (c .before) number) (c .if6 .taken)
 
-lower-of-requires : tie.Need-lower-of-requires
-lower-of-requires c κs = search needs
-
-adds-requires : tie.Need-adds-requires
-adds-requires c κs = search needs
-
-upper-of-requires : tie.Need-upper-of-requires
-upper-of-requires c κs = search needs
-
-adds-requires-2 : tie.Need-adds-requires-2
-adds-requires-2 c κs = search needs
-
 returns-7 : tie.Need-returns-7
 unfolding checked
 returns-7 c =
@@ -126,20 +102,20 @@ check-insert-spec =
     returns-2
     returns-3
     returns-4
-    is-ragged-requires
+    (λ c κs. search needs)  -- is-ragged-requires
     returns-5
-    pack-requires
+    (λ c κs. search needs)  -- pack-requires
     (λ c. search needs)  -- cast-source-of
     (λ c. search needs)  -- mul-source-of
     (λ c. search needs)  -- element-copy-out-source-of
-    source-of-requires
-    ties-requires
+    (λ c κs. search needs)  -- source-of-requires
+    (λ c κs. search needs)  -- ties-requires
     returns-6
     (λ c. search needs)  -- cast-n
-    lower-of-requires
-    adds-requires
-    upper-of-requires
-    adds-requires-2
+    (λ c κs. search needs)  -- lower-of-requires
+    (λ c κs. search needs)  -- adds-requires
+    (λ c κs. search needs)  -- upper-of-requires
+    (λ c κs. search needs)  -- adds-requires-2
     (λ c. search needs)  -- add-more
     (λ c. search needs)  -- add-if7
     returns-7

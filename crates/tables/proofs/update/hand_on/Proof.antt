@@ -21,22 +21,13 @@ abbrev μ-loop : tie.MeasureT-loop
 below : (i : tie.In-loop Inv-loop μ-loop) → i .before .loop .p < i .before .before .before .before .args .t .0
 below i = rw (i .before .before .end-of .ensures) at (i .loop-test .taken)
 
-end-of-requires : tie.Need-end-of-requires Inv-loop μ-loop
-end-of-requires c κs = search needs
-
 loop-holds : tie.Need-loop-holds Inv-loop μ-loop
 loop-holds c = (search needs, omega (arith, c .before .before .pre .0 .order), refl, swept-none)
-
-atom-at-requires : tie.Need-atom-at-requires Inv-loop μ-loop
-atom-at-requires c κs = search needs
 
 owner-index-requires : tie.Need-owner-index-requires Inv-loop μ-loop
 owner-index-requires c κs =
     let r = c .before .before .before .before .before .pre .0 in
     (rw (c .atom-at .ensures) (small r (below (c .before))), r .node)
-
-heir-requires : tie.Need-heir-requires Inv-loop μ-loop
-heir-requires c κs = search needs
 
 settle-requires : tie.Need-settle-requires Inv-loop μ-loop
 settle-requires c κs =
@@ -72,15 +63,15 @@ hand-on-spec =
     (tie.spec
     Inv-loop
     μ-loop
-    end-of-requires
+    (λ c κs. search needs)  -- end-of-requires
     loop-holds
-    atom-at-requires
+    (λ c κs. search needs)  -- atom-at-requires
     owner-index-requires
     (λ c. search needs)  -- mul-old
     (λ c. search needs)  -- element-copy-out-old
     (λ c. search needs)  -- mul-heir
     (λ c. search needs)  -- element-copy-out-heir
-    heir-requires
+    (λ c κs. search needs)  -- heir-requires
     settle-requires
     (λ c. search needs)  -- add-p
     (λ c. search needs)  -- loop-less

@@ -9,15 +9,13 @@ returns : tie.Need-returns
 unfolding heirOf
 returns c = rw (ne-eqb _ _ (c .if1 .taken))
 
-best-among-requires : tie.Need-best-among-requires
-best-among-requires c κs = search needs
-
-owner-for-requires : tie.Need-owner-for-requires
-owner-for-requires c κs = search needs
-
 returns-2 : tie.Need-returns-2
 unfolding heirOf
 returns-2 c = rw (eq-eqb _ _ (c .before .before .if1 .left), ← (c .before .best-among .ensures .0)) (c .owner-for .ensures)
 
 pub heir-spec : {M : Type 1} → statement M
-heir-spec = tie.close (tie.spec returns best-among-requires owner-for-requires returns-2)
+heir-spec = tie.close (tie.spec
+    returns
+    (λ c κs. search needs)  -- best-among-requires
+    (λ c κs. search needs)  -- owner-for-requires
+    returns-2)

@@ -16,9 +16,6 @@ sub-i c = omega (arith, c .before .pre (c .if1 .left) .0)
 element-copy-out-rank-of : tie.Need-element-copy-out-rank-of
 element-copy-out-rank-of c = omega (arith, c .before .pre (c .if1 .left) .0, c .before .pre (c .if1 .left) .1)
 
-rank-of-requires : tie.Need-rank-of-requires
-rank-of-requires c κs = search needs
-
 returns-2 : tie.Need-returns-2
 unfolding raised
 returns-2 c =
@@ -40,6 +37,6 @@ higher-spec =
     sub-i
     (λ c. search needs)  -- mul-rank-of
     element-copy-out-rank-of
-    rank-of-requires
+    (λ c κs. search needs)  -- rank-of-requires
     returns-2
     returns-3)

@@ -140,17 +140,8 @@ at-places c = c .before .before .before .before .before .before .before .before 
 element-copy-out-source-of : tie.Need-element-copy-out-source-of
 element-copy-out-source-of c = fits (c .before .before) .link
 
-source-of-requires : tie.Need-source-of-requires
-source-of-requires c κs = search needs
-
 pack-requires : tie.Need-pack-requires
 pack-requires c κs = let s = c .before .before .before .before in (fits s .link, fits s .long)
-
-lower-of-requires : tie.Need-lower-of-requires
-lower-of-requires c κs = search needs
-
-upper-of-requires : tie.Need-upper-of-requires
-upper-of-requires c κs = search needs
 
 make-boundary-requires : tie.Need-make-boundary-requires
 make-boundary-requires c κs =
@@ -194,9 +185,6 @@ add-mine c = omega (arith, mine-fits (s (at-two (c .before))))
 add-mine-2 : tie.Need-add-mine-2
 add-mine-2 c = omega (arith, mine-fits (s (at-two (c .before))))
 
-rank-of-requires : tie.Need-rank-of-requires
-rank-of-requires c κs = search needs
-
 take-over-requires : tie.Need-take-over-requires
 take-over-requires c κs =
     let p = c .before .before .before .before .before .before .before .before in
@@ -237,10 +225,10 @@ insert-spec =
     (λ c. search needs)  -- cast-l
     (λ c. search needs)  -- mul-source-of
     element-copy-out-source-of
-    source-of-requires
+    (λ c κs. search needs)  -- source-of-requires
     pack-requires
-    lower-of-requires
-    upper-of-requires
+    (λ c κs. search needs)  -- lower-of-requires
+    (λ c κs. search needs)  -- upper-of-requires
     (λ c. search needs)  -- cast-make-boundary
     make-boundary-requires
     make-boundary-requires-2
@@ -250,7 +238,7 @@ insert-spec =
     mul-mine
     add-mine
     add-mine-2
-    rank-of-requires
+    (λ c κs. search needs)  -- rank-of-requires
     take-over-requires
     mul-rule
     element-write-rule

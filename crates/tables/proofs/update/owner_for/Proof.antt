@@ -10,9 +10,6 @@ returns : tie.Need-returns
 unfolding ownerFor
 returns c = rw (c .if1 .taken)
 
-link-of-requires : tie.Need-link-of-requires
-link-of-requires c κs = search needs
-
 returns-2 : tie.Need-returns-2
 unfolding ownerFor
 returns-2 c =
@@ -26,7 +23,7 @@ owner-for-spec =
     returns
     (λ c. search needs)  -- mul-link-of
     (λ c. search needs)  -- element-copy-out-link-of
-    link-of-requires
+    (λ c κs. search needs)  -- link-of-requires
     (λ c. search needs)  -- mul-result
     (λ c. search needs)  -- add-result
     (λ c. search needs)  -- add-result-2

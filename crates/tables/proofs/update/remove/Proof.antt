@@ -77,29 +77,8 @@ at-gather c = c .before .before .before .before .before .before .before .before
 element-copy-out-w : tie.Need-element-copy-out-w
 element-copy-out-w c = going (c .before) _ refl .slot
 
-link-of-requires : tie.Need-link-of-requires
-link-of-requires c κs = search needs
-
-source-of-requires : tie.Need-source-of-requires
-source-of-requires c κs = search needs
-
-lower-of-requires : tie.Need-lower-of-requires
-lower-of-requires c κs = search needs
-
-place-of-requires : tie.Need-place-of-requires
-place-of-requires c κs = search needs
-
-upper-of-requires : tie.Need-upper-of-requires
-upper-of-requires c κs = search needs
-
-place-of-requires-2 : tie.Need-place-of-requires-2
-place-of-requires-2 c κs = search needs
-
 element-write-rule : tie.Need-element-write-rule
 element-write-rule c = joined (at-node c) .slot
-
-gather-requires : tie.Need-gather-requires
-gather-requires c κs = search needs
 
 add-gone : tie.Need-add-gone
 add-gone c = let n = at-node (at-places c) in omega (arith, joined n .slot, n .before .before .link-of .ensures .1)
@@ -137,18 +116,18 @@ remove-spec =
     (tie.spec
     (λ c. search needs)  -- mul-w
     element-copy-out-w
-    link-of-requires
+    (λ c κs. search needs)  -- link-of-requires
     (λ c. search needs)  -- mul-source-of
     (λ c. search needs)  -- element-copy-out-source-of
-    source-of-requires
+    (λ c κs. search needs)  -- source-of-requires
     (λ c. search needs)  -- cast-n
-    lower-of-requires
-    place-of-requires
-    upper-of-requires
-    place-of-requires-2
+    (λ c κs. search needs)  -- lower-of-requires
+    (λ c κs. search needs)  -- place-of-requires
+    (λ c κs. search needs)  -- upper-of-requires
+    (λ c κs. search needs)  -- place-of-requires-2
     (λ c. search needs)  -- mul-rule
     element-write-rule
-    gather-requires
+    (λ c κs. search needs)  -- gather-requires
     (λ c. search needs)  -- cast-gone
     (λ c. search needs)  -- mul-gone
     add-gone

@@ -17,9 +17,6 @@ returns c = record {
   near = (search needs, search needs);
 }
 
-change-owner-requires : tie.Need-change-owner-requires
-change-owner-requires c κs = search needs
-
 returns-2 : tie.Need-returns-2
 returns-2 c =
     let n = c .before .before .before .before .before .before .if1 .left in
@@ -38,7 +35,7 @@ returns-2 c =
 pub settle-spec : {M : Type 1} → statement M
 settle-spec = tie.close (tie.spec
     returns
-    change-owner-requires
+    (λ c κs. search needs)  -- change-owner-requires
     (λ c. search needs)  -- add-result
     (λ c. search needs)  -- same-length
     returns-2)

@@ -21,14 +21,8 @@ abbrev μ-loop : tie.MeasureT-loop
 below : (i : tie.In-loop Inv-loop μ-loop) → i .before .loop .p < i .before .before .before .before .args .t .0
 below i = rw (i .before .before .end-of .ensures) at (i .loop-test .taken)
 
-end-of-requires : tie.Need-end-of-requires Inv-loop μ-loop
-end-of-requires c κs = search needs
-
 loop-holds : tie.Need-loop-holds Inv-loop μ-loop
 loop-holds c = (search needs, omega (arith, c .before .before .pre .0 .order), refl, swept-none)
-
-atom-at-requires : tie.Need-atom-at-requires Inv-loop μ-loop
-atom-at-requires c κs = search needs
 
 owner-index-requires : tie.Need-owner-index-requires Inv-loop μ-loop
 owner-index-requires c κs =
@@ -79,9 +73,9 @@ take-over-spec =
     (tie.spec
     Inv-loop
     μ-loop
-    end-of-requires
+    (λ c κs. search needs)  -- end-of-requires
     loop-holds
-    atom-at-requires
+    (λ c κs. search needs)  -- atom-at-requires
     owner-index-requires
     (λ c. search needs)  -- mul-old
     (λ c. search needs)  -- element-copy-out-old
