@@ -17,5 +17,3 @@ pub mod Sets
 pub mod Steps
 -- what a record is that no arm of a `match` names before its last
 pub mod Others
--- no second outcome meets a public contract
-pub mod Once

@@ -19,3 +19,5 @@ pub mod Fates
 pub mod Questions
 -- where the place stays and where a run stops; the lent list
 pub mod Runs
+-- no second outcome meets a public contract
+pub mod Once

@@ -1,5 +1,5 @@
 -- One outcome: two outcomes of `next_record`, or of `reader_over`, that both meet its contract are the same. An outcome is all that the
--- function returns and leaves. Those of the functions that hold no reader are in meaning's proofs/Once. Assumes nothing.
+-- function returns and leaves. Those of the functions that hold no reader are in meaning's document/Once. Assumes nothing.
 use mathlib.Core.Path.{_≡_, sym, ap, _∙_}
 use mathlib.Core.List.{List}
 use Prim.Native.Nat.{ℕ}

@@ -16,6 +16,7 @@ use Rattle.meaning.specs.Hall.{top, State, sourceOf}
 use Rattle.meaning.specs.Winner.{winner, nextAt}
 use Rattle.meaning.specs.Atoms.{placeOf}
 use Rattle.meaning.specs.Labels.{on, names, isOn, labelsOf, howMany, lowestOn}
+use Rattle.meaning.specs.Working.{ownersOf}
 use Rattle.meaning.specs.Run.{Came}
 use Rattle.meaning.specs.declared.Hall.{Hall}
 use Rattle.meaning.specs.Box.{stateOf, Held, AtomsHeld}
@@ -126,6 +127,10 @@ module _ (m : State) (c : Came m) where
 
   pub no-bit : (l k : ℕ) → l < 64 → m .atoms ≤ k → k < 512 → on (labelsOf m) l k ≡ false
   no-bit l k hl h hk = labels-on m l k hl hk ∙ no-atom l k h
+
+-- a state that came by records is held with its labels and its owners
+pub held-of : (m : State) → Came m → Held m (labelsOf m) (ownersOf m)
+held-of m c = record { came = c; labels = refl; owners = refl }
 
 -- the premise where only cuts and numbers are lent holds of every box that is held
 pub atoms-held : (h : Hall) (link rule cut number label owner : List ℕ) → Held (stateOf h link rule cut number) label owner → AtomsHeld h cut number
