@@ -13,7 +13,8 @@ use Rattle.meaning.specs.Labels.{names, isOn, wordOf, labelsOf}
 use Rattle.meaning.specs.Changes.{overwrite}
 use Rattle.meaning.specs.Step.{stepOf}
 use Rattle.meaning.specs.Working.{stepIn}
-use Rattle.meaning.specs.Run.{start, Line, Ran, runFrom, linesFrom, linesOf}
+use Rattle.meaning.specs.Run.{start, Ran, runFrom}
+use Rattle.examples.specs.Lines.{Line, linesFrom, linesOf}
 use Rattle.examples.proofs.ByPlaces.{lines-in, run-in}
 use Rattle.examples.proofs.Listing.{opened}
 

@@ -12,7 +12,8 @@ use Rattle.meaning.specs.Changes.{overwrite}
 use Rattle.meaning.specs.Records.{readOf}
 use Rattle.meaning.specs.Step.{Done, stepWith, stepOf}
 use Rattle.meaning.specs.Working.{stepIn}
-use Rattle.meaning.specs.Run.{Came, Line, Ran, runFrom, linesFrom, more}
+use Rattle.meaning.specs.Run.{Came, Ran, runFrom, more}
+use Rattle.examples.specs.Lines.{Line, linesFrom}
 use Rattle.meaning.specs.Tables.{Sound}
 use Rattle.meaning.proofs.atoms.Constant.{by-place}
 use Rattle.meaning.proofs.sound.Kept.{sound}

@@ -17,7 +17,8 @@ use Rattle.meaning.specs.Questions.{fateOf, loopsAt, circleAt, someNode, loopFr
 use Rattle.meaning.specs.Records.{number, isKind, bodyOf, recordOf, readOf, phaseOf}
 use Rattle.meaning.specs.Step.{when, ragged, clashes, added, refusal, withRule, inserted, withNodes, withLink, closed, leaves, listed, nodeOf, changes, only, answers, accepted, taken, stepFor, stepWith, stepOf}
 use Rattle.meaning.specs.Working.{leastPlace, countPlace, byPlace, stepIn}
-use Rattle.meaning.specs.Run.{start, Line, Ran, runFrom, linesFrom, linesOf}
+use Rattle.meaning.specs.Run.{start, Ran, runFrom}
+use Rattle.examples.specs.Lines.{Line, linesFrom, linesOf}
 use Rattle.meaning.specs.Labels.{names, isOn, wordOf, labelsOf}
 use Rattle.examples.proofs.ByPlaces.{lines-in, run-in}
 

@@ -1,5 +1,5 @@
 -- A run over a whole stream, and which states come from a fresh one by records. Assumes nothing: these are definitions.
-use mathlib.Core.List.{List, [], _∷_}
+use mathlib.Core.List.{List}
 use Prim.Native.Nat.{ℕ, zero, suc, _+_}
 use lib.Dec.{eqb}
 use lib.ListN.{length, drop}
@@ -17,11 +17,6 @@ pub record Ran : Type 0 where
   pub left : State
   pub list : List ℕ
 
--- a line of the listing: the answer, and the words written
-pub record Line : Type 0 where
-  pub answer : Answer
-  pub written : List ℕ
-
 module _ (step : State → ℕ → List ℕ → Done) where
   -- from the state m after n records, over the bytes s, with a lent list; it stops where no byte is passed, and k bounds the steps
   unfoldable pub runFrom : ℕ → ℕ → State → List ℕ → List ℕ → Ran
@@ -31,21 +26,9 @@ module _ (step : State → ℕ → List ℕ → Done) where
       let more = runFrom k (n + 1) (d .left) (overwrite (d .written) list) (drop (d .passed) s) in
       pick (eqb (d .passed) 0) (record { past = n; stopped = d .answer; left = d .left; list = overwrite (d .written) list }) more
 
-  -- a line for each record that is gone past, where the lent list has room words
-  unfoldable pub linesFrom : ℕ → ℕ → State → List ℕ → List Line
-  linesFrom room zero m s = []
-  linesFrom room (suc k) m s =
-      let d = step m room s in
-      let more = linesFrom room k (d .left) (drop (d .passed) s) in
-      let lines : List Line = record { answer = d .answer; written = d .written } ∷ more in
-      pick (eqb (d .passed) 0) [] lines
-
 -- THE MEANING of a whole stream: each record takes a byte at least, so the bytes bound the steps
 unfoldable pub runOf : List ℕ → List ℕ → Ran
 runOf list s = runFrom stepOf (length s + 1) 0 fresh list s
-
-unfoldable pub linesOf : ℕ → List ℕ → List Line
-linesOf room s = linesFrom stepOf room (length s) fresh s
 
 -- the state came from a fresh one by records
 pub data Came : State → Type 0 where
