@@ -2,6 +2,7 @@
 use mathlib.Core.Path.{_≡_, refl, sym, ap, _∙_}
 use mathlib.Core.Logic.{_↔_, _⊎_, inl, inr, ⊎-elim}
 use mathlib.Core.Bool.{Bool, true, false, true≢false}
+use mathlib.Core.Option.{none, some}
 use mathlib.Core.List.{List, [], _∷_, _++_, append-nil, List·Memᴰ, List·Memᴰ·head, List·Memᴰ·not-nil, List·Memᴰ·eq-of-singleton, List·Memᴰ·append-cases, Memᴰ·append-left, Memᴰ·append-right, append-assoc}
 use Prim.Native.Nat.{ℕ, zero, suc, _+_, _<_, _*_, _≤_}
 use native.Mathlib.Nat.{not-suc-le-zero, le-of-suc-le-suc, eq-or-lt-of-le}
@@ -9,8 +10,17 @@ use native.Mathlib.Omega.{arith}
 use lib.ListN.{length, getD, length-append, List·getD-append}
 use Rattle.meaning.specs.Search.{pick}
 use Rattle.meaning.specs.Hall.{State}
-use Rattle.meaning.specs.Changes.{changedAt, changedPlaces, entryAt, entriesAt}
+use Rattle.meaning.specs.Changes.{linkOrNone, changedAt, changedPlaces, entryAt, entriesAt}
 use Rattle.meaning.proofs.rules.Covers.{winner-same, next-same}
+
+-- a link's word in an entry is its number, and none has the first number that no link has
+pub link-word : (l : ℕ) → linkOrNone (some l) ≡ l
+unfolding linkOrNone
+link-word l = refl
+
+pub none-word : linkOrNone none ≡ 64
+unfolding linkOrNone
+none-word = refl
 
 module _ (old new : State) (v : ℕ) where
   -- THE LAW: place p is among the changed places of the first n exactly when it is one of these and its winner changed
