@@ -68,6 +68,26 @@ unfoldable pub widths : ℕ → List ℕ
 widths k =
     getD ([] ∷ (1 ∷ []) ∷ (1 ∷ 1 ∷ 1 ∷ []) ∷ [] ∷ (2 ∷ 1 ∷ 4 ∷ 1 ∷ 2 ∷ []) ∷ (2 ∷ []) ∷ [] ∷ (1 ∷ 4 ∷ []) ∷ (1 ∷ 1 ∷ []) ∷ (1 ∷ []) ∷ []) k []
 
+-- their sum
+unfoldable pub total : List ℕ → ℕ
+total [] = 0
+total (w ∷ ws) = w + total ws
+
+-- THE LAW: a kind's body has as many bytes as its fields
+pub body-is : (k : ℕ) → bodyOf k ≡ total (widths k)
+unfolding bodyOf widths total
+body-is zero = refl
+body-is (suc zero) = refl
+body-is (suc (suc zero)) = refl
+body-is (suc (suc (suc zero))) = refl
+body-is (suc (suc (suc (suc zero)))) = refl
+body-is (suc (suc (suc (suc (suc zero))))) = refl
+body-is (suc (suc (suc (suc (suc (suc zero)))))) = refl
+body-is (suc (suc (suc (suc (suc (suc (suc zero))))))) = refl
+body-is (suc (suc (suc (suc (suc (suc (suc (suc zero)))))))) = refl
+body-is (suc (suc (suc (suc (suc (suc (suc (suc (suc zero))))))))) = refl
+body-is (suc (suc (suc (suc (suc (suc (suc (suc (suc (suc k)))))))))) = refl
+
 -- the numbers in the bytes of s from byte i on, each with its width
 unfoldable pub numbers : List ℕ → ℕ → List ℕ → List ℕ
 numbers s i [] = []

@@ -26,6 +26,11 @@ module _ {l p n t : ℕ} (R : RuleFits l p n t) where
   unfolding linkOf ruleWord
   link-of = omega arith
 
+  -- its highest bit is bit 60, so that a live rule's word is never 0 and has room in 64 bits
+  pub word-size : (2 ^ 60 ≤ ruleWord l p n t) × (ruleWord l p n t < 2 ^ 61)
+  unfolding ruleWord
+  word-size = (omega arith, omega arith)
+
   pub rank-of : rank (ruleWord l p n t) ≡ t
   unfolding rank ruleWord
   rank-of = omega arith
