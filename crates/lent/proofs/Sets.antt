@@ -22,7 +22,7 @@ use Rattle.meaning.proofs.walk.Moves.{goes-to, leaves-by, lost-at}
 use Rattle.meaning.proofs.base.Search.{any-true, any-some, and-both}
 use Rattle.lent.specs.Owners.{ownerIn, via, viaLink, nextIn, endIn, Whole}
 use Rattle.lent.proofs.Labelled.{starts, won, via-won, source-small, ends-in}
-use Rattle.lent.specs.Sets.{sourceIn, Taken, Carries, Reached, Within, leavesBy, goesOn, lostAt}
+use Rattle.lent.specs.Sets.{rows, sourceIn, Taken, Carries, Reached, Within, leavesBy, goesOn, lostAt}
 use Rattle.meaning.proofs.base.Order.{clash}
 
 -- ---- labels and moves
@@ -89,7 +89,7 @@ same-test false false f g = refl
 from-port : (e : ℕ) → e / 256 ≡ 1 → (256 ≤ e) × (e < 512)
 from-port e h = (omega arith, omega arith)
 
-row : (u : ℕ) → u < 16 → u < 18
+row : (u : ℕ) → u < 16 → u < rows
 row u h = omega arith
 
 module _ {link label owner : List ℕ} {links nodes : ℕ} (C : Carries link label owner links nodes) (k : ℕ) (hk : k < 512) where

@@ -3,7 +3,7 @@ use mathlib.Core.Path.{_≡_}
 use mathlib.Core.Bool.{Bool, true, _&&_, not}
 use mathlib.Core.List.{List}
 use mathlib.Core.Option.{some}
-use Prim.Native.Nat.{ℕ, _/_, _≤_, _<_}
+use Prim.Native.Nat.{ℕ, _*_, _/_, _≤_, _<_}
 use lib.Dec.{ltb, eqb}
 use lib.ListN.{getD}
 use Rattle.meaning.specs.Search.{anyBelow}
@@ -11,6 +11,22 @@ use Rattle.meaning.specs.Labels.{on}
 use Rattle.meaning.specs.Walk.{at, after}
 use Rattle.meaning.proofs.walk.Walks.{Reaches}
 use Rattle.lent.specs.Owners.{nextIn, endIn}
+
+-- the row of a table of sets for the atoms that go out of the hall: it stands behind the rows of the 16 nodes
+abbrev pub outRow : ℕ
+outRow = 16
+
+-- the row for the atoms that are lost
+abbrev pub lostRow : ℕ
+lostRow = 17
+
+-- how many rows a table of sets has
+abbrev pub rows : ℕ
+rows = 18
+
+-- how many words a table of sets has: each row has eight, as a label has
+abbrev pub tableWords : ℕ
+tableWords = 8 * rows
 
 -- the source of link l
 abbrev pub sourceIn : List ℕ → ℕ → ℕ
@@ -32,7 +48,7 @@ pub record Carries (link label owner : List ℕ) (links nodes : ℕ) : Type 0 wh
 
 -- an atom stands in the row of a node only where its walk from v comes to that node, and in no row past the nodes'
 pub record Reached (link owner : List ℕ) (v : ℕ) (stand : List ℕ) : Type 0 where
-  pub comes : (w k : ℕ) → w < 18 → k < 512 → on stand w k ≡ true → (w < 16) × Reaches (nextIn owner k) (endIn link) v w
+  pub comes : (w k : ℕ) → w < rows → k < 512 → on stand w k ≡ true → (w < 16) × Reaches (nextIn owner k) (endIn link) v w
 
 -- an atom stands in the row of each node where its walk from v stands after fewer than i moves
 pub record Within (link owner : List ℕ) (v i : ℕ) (stand : List ℕ) : Type 0 where

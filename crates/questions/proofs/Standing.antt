@@ -24,7 +24,7 @@ use Rattle.meaning.proofs.walk.Walks.{after-suc, going-down}
 use Rattle.meaning.proofs.base.Search.{any-off, any-more, and-both, or-either, or-neither}
 use Rattle.lent.specs.Nodes.{among}
 use Rattle.lent.proofs.Walking.{in-none, step-to}
-use Rattle.lent.specs.Sets.{sourceIn, Carries, Reached, Within, leavesBy, goesOn, lostAt}
+use Rattle.lent.specs.Sets.{outRow, lostRow, rows, tableWords, sourceIn, Carries, Reached, Within, leavesBy, goesOn, lostAt}
 use Rattle.lent.proofs.Sets.{moved-by, moves-on, carries-of, out-is, lost-is}
 use Rattle.lent.proofs.LabelWords.{trailing-below, trailing-at}
 use Rattle.meaning.proofs.base.Bits.{zero-bits, set-bit, clear-bit, shifted, or-bits, and-bits, without-bits, ones-bits, or-none, xor-none}
@@ -38,14 +38,14 @@ declared-of {m} {label} {owner} W = record { few = W .sound .few; source = carri
 
 -- the first j words of row r are f 0, f 1 and so on, and the others are as before
 pub record Writing (before after : List ℕ) (r j : ℕ) (f : ℕ → ℕ) : Type 0 where
-  pub size : length after ≡ 144
+  pub size : length after ≡ tableWords
   pub done : (i : ℕ) → i < j → getD after (8 * r + i) 0 ≡ f i
   pub rest : (x : ℕ) → ((8 * r ≤ x) × (x < 8 * r + j) → ⊥) → getD after x 0 ≡ getD before x 0
 
-pub writing-none : (b : List ℕ) (r : ℕ) (f : ℕ → ℕ) → length b ≡ 144 → Writing b b r 0 f
+pub writing-none : (b : List ℕ) (r : ℕ) (f : ℕ → ℕ) → length b ≡ tableWords → Writing b b r 0 f
 writing-none b r f size = record { size = size; done = λ i h. absurd (omega arith); rest = λ x h. refl }
 
-pub writing-more : {b a : List ℕ} {r j : ℕ} {f : ℕ → ℕ} → Writing b a r j f → r < 18 → j < 8 → (y : ℕ) → y ≡ f j → Writing b (set a (8 * r + j) y) r (j + 1) f
+pub writing-more : {b a : List ℕ} {r j : ℕ} {f : ℕ → ℕ} → Writing b a r j f → r < rows → j < 8 → (y : ℕ) → y ≡ f j → Writing b (set a (8 * r + j) y) r (j + 1) f
 writing-more {b} {a} {r} {j} {f} W hr hj y e = record {
   size = length-set a (8 * r + j) y ∙ W .size;
   done = λ i h. done i h (ℕ-discrete i j);
@@ -70,19 +70,19 @@ module _ {b a : List ℕ} {r j : ℕ} {f : ℕ → ℕ} (W : Writing b a r j f) 
 -- ---- a row filled
 
 -- an empty table
-none-on : (u k : ℕ) → u < 18 → k < 512 → on (zeroes 144) u k ≡ false
-none-on u k hu hk = ap (λ (x : ℕ). eqb (bit x (k % 64)) 1) (getD-replicate {A = ℕ} 144 (8 * u + k / 64) 0 0 (omega arith)) ∙ zero-bits (k % 64)
+none-on : (u k : ℕ) → u < rows → k < 512 → on (zeroes tableWords) u k ≡ false
+none-on u k hu hk = ap (λ (x : ℕ). eqb (bit x (k % 64)) 1) (getD-replicate {A = ℕ} tableWords (8 * u + k / 64) 0 0 (omega arith)) ∙ zero-bits (k % 64)
 
 abbrev pub ones : ℕ → ℕ
 ones i = 18446744073709551615
 
-pub empty-size : (b : List ℕ) → b ≡ zeroes 144 → length b ≡ 144
-empty-size b e = ap length e ∙ length-replicate {A = ℕ} 144 0
+pub empty-size : (b : List ℕ) → b ≡ zeroes tableWords → length b ≡ tableWords
+empty-size b e = ap length e ∙ length-replicate {A = ℕ} tableWords 0
 
-pub filled : {b a : List ℕ} {v j : ℕ} → b ≡ zeroes 144 → Writing b a v j ones → j ≡ 8 → Filled v a
+pub filled : {b a : List ℕ} {v j : ℕ} → b ≡ zeroes tableWords → Writing b a v j ones → j ≡ 8 → Filled v a
 filled {b} {a} {v} {j} z W e = record { size = W .size; member = λ u k hu hk. go u k hu hk (ℕ-discrete u v) }
   where
-    go : (u k : ℕ) → u < 18 → k < 512 → Dec (u ≡ v) → on a u k ≡ eqb u v
+    go : (u k : ℕ) → u < rows → k < 512 → Dec (u ≡ v) → on a u k ≡ eqb u v
     go u k hu hk (yes q) = written W (omega arith) u k hk q ∙ ones-bits 64 (k % 64) (mod-lt k (zero-lt-suc 63)) ∙ sym (eq-eqb u v q)
     go u k hu hk (no n) = other-row W (omega arith) u k hk n (omega arith) ∙ ap (λ (x : List ℕ). on x u k) z ∙ none-on u k hu hk ∙ sym (ne-eqb u v n)
 
@@ -96,10 +96,10 @@ pub record Joining (label : List ℕ) (l s r : ℕ) (before after : List ℕ) (j
   pub words : Writing before after r j (joinedWord label l before s r)
   pub still : more ≡ 0 → (x : ℕ) → getD after x 0 ≡ getD before x 0
 
-pub joining-none : (label : List ℕ) (l s r : ℕ) (b : List ℕ) → length b ≡ 144 → Joining label l s r b b 0 0
+pub joining-none : (label : List ℕ) (l s r : ℕ) (b : List ℕ) → length b ≡ tableWords → Joining label l s r b b 0 0
 joining-none label l s r b size = record { words = writing-none b r _ size; still = λ e x. refl }
 
-pub joining-more : {label b a : List ℕ} {l s r j more : ℕ} → Joining label l s r b a j more → r < 18 → j < 8 → (y : ℕ) → y ≡ joinedWord label l a s r j
+pub joining-more : {label b a : List ℕ} {l s r j more : ℕ} → Joining label l s r b a j more → r < rows → j < 8 → (y : ℕ) → y ≡ joinedWord label l a s r j
     → Joining label l s r b (set a (8 * r + j) y) (j + 1) (bitOr more (bitXor y (getD a (8 * r + j) 0)))
 joining-more {label} {b} {a} {l} {s} {r} {j} {more} J hr hj y e = record {
   words = writing-more (J .words) hr hj y (e ∙ ap₂ (λ (x z : ℕ). bitOr x (bitAnd z (getD label (8 * l + j) 0))) (unwritten (J .words) r hj) (unwritten (J .words) s hj));
@@ -142,10 +142,10 @@ leftWord label l b s i = bitAnd (getD b (8 * s + i) 0) (2 ^ 64 - 1 - getD label 
 pub record Taking (label : List ℕ) (l s : ℕ) (before after : List ℕ) (j : ℕ) : Type 0 where
   pub words : Writing before after s j (leftWord label l before s)
 
-pub taking-none : (label : List ℕ) (l s : ℕ) (b : List ℕ) → length b ≡ 144 → Taking label l s b b 0
+pub taking-none : (label : List ℕ) (l s : ℕ) (b : List ℕ) → length b ≡ tableWords → Taking label l s b b 0
 taking-none label l s b size = record { words = writing-none b s _ size }
 
-pub taking-more : {label b a : List ℕ} {l s j : ℕ} → Taking label l s b a j → s < 18 → j < 8 → (y : ℕ) → y ≡ leftWord label l a s j → Taking label l s b (set a (8 * s + j) y) (j + 1)
+pub taking-more : {label b a : List ℕ} {l s j : ℕ} → Taking label l s b a j → s < rows → j < 8 → (y : ℕ) → y ≡ leftWord label l a s j → Taking label l s b (set a (8 * s + j) y) (j + 1)
 taking-more {label} {b} {a} {l} {s} {j} T hs hj y e =
     record { words = writing-more (T .words) hs hj y (e ∙ ap (λ (x : ℕ). bitAnd x (2 ^ 64 - 1 - getD label (8 * l + j) 0)) (unwritten (T .words) s hj)) }
 
@@ -167,45 +167,45 @@ taken-away {label} {b} {a} {l} {s} {j} L T e = record { size = W .size; member =
 -- ---- the nodes' rows gathered in one
 
 abbrev gatheredWord : List ℕ → ℕ → ℕ → ℕ
-gatheredWord b v i = bitOr (getD b (136 + i) 0) (getD b (8 * v + i) 0)
+gatheredWord b v i = bitOr (getD b (8 * lostRow + i) 0) (getD b (8 * v + i) 0)
 
--- the first j words of row v are joined to those of row 17
+-- the first j words of row v have joined the row of those that are lost
 pub record GatheringRow (v : ℕ) (before after : List ℕ) (j : ℕ) : Type 0 where
-  pub words : Writing before after 17 j (gatheredWord before v)
+  pub words : Writing before after lostRow j (gatheredWord before v)
 
-pub gathering-none : (v : ℕ) (b : List ℕ) → length b ≡ 144 → GatheringRow v b b 0
-gathering-none v b size = record { words = writing-none b 17 _ size }
+pub gathering-none : (v : ℕ) (b : List ℕ) → length b ≡ tableWords → GatheringRow v b b 0
+gathering-none v b size = record { words = writing-none b lostRow _ size }
 
-pub gathering-more : {v j : ℕ} {b a : List ℕ} → GatheringRow v b a j → j < 8 → (y : ℕ) → y ≡ gatheredWord a v j → GatheringRow v b (set a (136 + j) y) (j + 1)
+pub gathering-more : {v j : ℕ} {b a : List ℕ} → GatheringRow v b a j → j < 8 → (y : ℕ) → y ≡ gatheredWord a v j → GatheringRow v b (set a (8 * lostRow + j) y) (j + 1)
 gathering-more {v} {j} {b} {a} G hj y e =
-    record { words = writing-more (G .words) (omega arith) hj y (e ∙ ap₂ bitOr (unwritten (G .words) 17 hj) (unwritten (G .words) v hj)) }
+    record { words = writing-more (G .words) (omega arith) hj y (e ∙ ap₂ bitOr (unwritten (G .words) lostRow hj) (unwritten (G .words) v hj)) }
 
 pub gathered-row : {v j : ℕ} {b a : List ℕ} → GatheringRow v b a j → j ≡ 8 → GatheredRow v b a
-gathered-row {v} {j} {b} {a} G e = record { size = G .words .size; member = λ u k hu hk. go u k hk (ℕ-discrete u 17) }
+gathered-row {v} {j} {b} {a} G e = record { size = G .words .size; member = λ u k hu hk. go u k hk (ℕ-discrete u lostRow) }
   where
-    go : (u k : ℕ) → k < 512 → Dec (u ≡ 17) → on a u k ≡ on b u k || (eqb u 17 && on b v k)
+    go : (u k : ℕ) → k < 512 → Dec (u ≡ lostRow) → on a u k ≡ on b u k || (eqb u lostRow && on b v k)
     go u k hk (yes q) =
         written (G .words) (omega arith) u k hk q
-        ∙ or-bits (getD b (136 + k / 64) 0) (getD b (8 * v + k / 64) 0) (k % 64)
-        ∙ ap₂ (λ (x : ℕ) (t : Bool). on b x k || (t && on b v k)) (sym q) (sym (eq-eqb u 17 q))
+        ∙ or-bits (getD b (8 * lostRow + k / 64) 0) (getD b (8 * v + k / 64) 0) (k % 64)
+        ∙ ap₂ (λ (x : ℕ) (t : Bool). on b x k || (t && on b v k)) (sym q) (sym (eq-eqb u lostRow q))
     go u k hk (no n) =
         other-row (G .words) (omega arith) u k hk n (omega arith) ∙ sym (or-false (on b u k))
-        ∙ ap (λ (t : Bool). on b u k || (t && on b v k)) (sym (ne-eqb u 17 n))
+        ∙ ap (λ (t : Bool). on b u k || (t && on b v k)) (sym (ne-eqb u lostRow n))
 
-pub gathered-none : (b : List ℕ) → length b ≡ 144 → Gathered 0 b b
+pub gathered-none : (b : List ℕ) → length b ≡ tableWords → Gathered 0 b b
 unfolding anyBelow
-gathered-none b size = record { size = size; lost = λ k hk. sym (or-false (on b 17 k)); else = λ u k hu hk. refl }
+gathered-none b size = record { size = size; lost = λ k hk. sym (or-false (on b lostRow k)); else = λ u k hu hk. refl }
 
 pub gathered-more : {n : ℕ} {b a a′ : List ℕ} → Gathered n b a → n < 16 → GatheredRow n a a′ → Gathered (n + 1) b a′
 gathered-more {n} {b} {a} {a′} G h R = record {
   size = R .size;
   lost = λ k hk.
-      R .member 17 k (omega arith) hk
+      R .member lostRow k (omega arith) hk
       ∙ ap₂ _||_ (G .lost k hk) (G .else n k (omega arith) hk)
-      ∙ or-assoc (on b 17 k) (anyBelow n (λ u. on b u k)) (on b n k)
-      ∙ ap (λ (x : Bool). on b 17 k || x) (sym (any-more (λ u. on b u k) n));
+      ∙ or-assoc (on b lostRow k) (anyBelow n (λ u. on b u k)) (on b n k)
+      ∙ ap (λ (x : Bool). on b lostRow k || x) (sym (any-more (λ u. on b u k) n));
   else = λ u k hu hk.
-      R .member u k (omega arith) hk ∙ ap (λ (t : Bool). on a u k || (t && on a n k)) (ne-eqb u 17 (λ q. omega arith)) ∙ or-false (on a u k) ∙ G .else u k hu hk;
+      R .member u k (omega arith) hk ∙ ap (λ (t : Bool). on a u k || (t && on a n k)) (ne-eqb u lostRow (λ q. omega arith)) ∙ or-false (on a u k) ∙ G .else u k hu hk;
 }
 
 -- ---- the links that leave each node
@@ -257,7 +257,7 @@ module _ {link a : List ℕ} {l : ℕ} (L : Leaving link l a) where
 -- ---- one link carries its atoms on
 
 -- it does not, for it leads to no node
-pub along-none : (link label : List ℕ) (links l : ℕ) (b : List ℕ) → length b ≡ 144 → (endIn link l < 16 → ⊥) → Along link label links l b b 0
+pub along-none : (link label : List ℕ) (links l : ℕ) (b : List ℕ) → length b ≡ tableWords → (endIn link l < 16 → ⊥) → Along link label links l b b 0
 along-none link label links l b size away = record {
   size = size;
   kept = λ u k hu hk e. e;
@@ -308,7 +308,7 @@ module _ {link label : List ℕ} {links l s r : ℕ} {b a : List ℕ} {new : ℕ
 
 -- a round where the links of `left` are still to be taken
 pub record Spreading (link label : List ℕ) (links : ℕ) (before after : List ℕ) (left next : ℕ) : Type 0 where
-  pub size : length after ≡ 144
+  pub size : length after ≡ tableWords
   pub kept : Kept before after
   pub reached : (owner : List ℕ) (nodes v : ℕ) → Carries link label owner links nodes → Reached link owner v before → Reached link owner v after
   pub took : (l k : ℕ) → l < links → k < 512 → endIn link l < 16 → among left l ≡ false → on before (sourceIn link l) k ≡ true → on label l k ≡ true → on after (endIn link l) k ≡ true
@@ -317,7 +317,7 @@ pub record Spreading (link label : List ℕ) (links : ℕ) (before after : List 
   pub declared : (l : ℕ) → l < 64 → among left l ≡ true → l < links
   pub declared-next : (l : ℕ) → l < 64 → among next l ≡ true → l < links
 
-pub going-start : (link label : List ℕ) (links : ℕ) (b : List ℕ) (from : ℕ) → length b ≡ 144 → SettledBut link label links from b → Spreading link label links b b from 0
+pub going-start : (link label : List ℕ) (links : ℕ) (b : List ℕ) (from : ℕ) → length b ≡ tableWords → SettledBut link label links from b → Spreading link label links b b from 0
 going-start link label links b from size S = record {
   size = size;
   kept = λ u k hu hk e. e;
@@ -410,7 +410,7 @@ module _ {link label : List ℕ} {links : ℕ} {b a : List ℕ} {left next : ℕ
 
 -- after i rounds: each node that a walk stands at after i moves or fewer has the atom
 pub record Waves (link label : List ℕ) (links v : ℕ) (stand : List ℕ) (from i : ℕ) : Type 0 where
-  pub size : length stand ≡ 144
+  pub size : length stand ≡ tableWords
   pub reached : (owner : List ℕ) (nodes : ℕ) → Carries link label owner links nodes → Reached link owner v stand
   pub settled : SettledBut link label links from stand
   pub within : (owner : List ℕ) (nodes : ℕ) → Carries link label owner links nodes → Within link owner v (i + 1) stand
@@ -490,22 +490,22 @@ module _ {link label : List ℕ} {links v : ℕ} {b : List ℕ} {from i : ℕ} (
 
 -- ---- the atoms that leave
 
-pub outward-none : (link label b : List ℕ) → length b ≡ 144 → Outward link label 0 b b
+pub outward-none : (link label b : List ℕ) → length b ≡ tableWords → Outward link label 0 b b
 unfolding anyBelow
-outward-none link label b size = record { size = size; out = λ k hk. sym (or-false (on b 16 k)); else = λ u k hu hk n. refl }
+outward-none link label b size = record { size = size; out = λ k hk. sym (or-false (on b outRow k)); else = λ u k hu hk n. refl }
 
 module _ {link label b a : List ℕ} {l : ℕ} (O : Outward link label l b a) where
-  pub outward-by : {a′ : List ℕ} {s more : ℕ} → endIn link l / 256 ≡ 1 → s ≡ sourceIn link l → s < 16 → JoinedRow label l s 16 a a′ more → Outward link label (l + 1) b a′
+  pub outward-by : {a′ : List ℕ} {s more : ℕ} → endIn link l / 256 ≡ 1 → s ≡ sourceIn link l → s < 16 → JoinedRow label l s outRow a a′ more → Outward link label (l + 1) b a′
   unfolding leavesBy
   outward-by {a′} {s} port from hs J = record {
     size = J .size;
     out = λ k hk.
-        let t : (eqb 16 16 && (on a s k && on label l k)) ≡ leavesBy link label b k l = ap₂ _&&_ (sym (eq-eqb (endIn link l / 256) 1 port)) (ap (λ (x : Bool). x && on label l k) (O .else s k (omega arith) hk (λ q. omega arith) ∙ ap (λ (x : ℕ). on b x k) from)) in
-        J .member 16 k (omega arith) hk
+        let t : (eqb outRow outRow && (on a s k && on label l k)) ≡ leavesBy link label b k l = ap₂ _&&_ (sym (eq-eqb (endIn link l / 256) 1 port)) (ap (λ (x : Bool). x && on label l k) (O .else s k (omega arith) hk (λ q. omega arith) ∙ ap (λ (x : ℕ). on b x k) from)) in
+        J .member outRow k (omega arith) hk
         ∙ ap₂ _||_ (O .out k hk) t
-        ∙ or-assoc (on b 16 k) (anyBelow l (leavesBy link label b k)) (leavesBy link label b k l)
-        ∙ ap (λ (x : Bool). on b 16 k || x) (sym (any-more (leavesBy link label b k) l));
-    else = λ u k hu hk n. J .member u k hu hk ∙ ap (λ (t : Bool). on a u k || (t && (on a s k && on label l k))) (ne-eqb u 16 n) ∙ or-false (on a u k) ∙ O .else u k hu hk n;
+        ∙ or-assoc (on b outRow k) (anyBelow l (leavesBy link label b k)) (leavesBy link label b k l)
+        ∙ ap (λ (x : Bool). on b outRow k || x) (sym (any-more (leavesBy link label b k) l));
+    else = λ u k hu hk n. J .member u k hu hk ∙ ap (λ (t : Bool). on a u k || (t && (on a s k && on label l k))) (ne-eqb u outRow n) ∙ or-false (on a u k) ∙ O .else u k hu hk n;
   }
 
   pub outward-not : (endIn link l / 256 ≡ 1 → ⊥) → Outward link label (l + 1) b a
@@ -514,13 +514,13 @@ module _ {link label b a : List ℕ} {l : ℕ} (O : Outward link label l b a) wh
     size = O .size;
     out = λ k hk.
         let t : leavesBy link label b k l ≡ false = ap (λ (x : Bool). x && (on b (sourceIn link l) k && on label l k)) (ne-eqb (endIn link l / 256) 1 n) in
-        O .out k hk ∙ ap (λ (x : Bool). on b 16 k || x) (sym (any-more (leavesBy link label b k) l ∙ ap (λ (x : Bool). anyBelow l (leavesBy link label b k) || x) t ∙ or-false (anyBelow l (leavesBy link label b k))));
+        O .out k hk ∙ ap (λ (x : Bool). on b outRow k || x) (sym (any-more (leavesBy link label b k) l ∙ ap (λ (x : Bool). anyBelow l (leavesBy link label b k) || x) t ∙ or-false (anyBelow l (leavesBy link label b k))));
     else = O .else;
   }
 
 -- ---- the atoms that no link takes on
 
-pub stayed-none : (link label b : List ℕ) → length b ≡ 144 → Stayed link label 0 b b
+pub stayed-none : (link label b : List ℕ) → length b ≡ tableWords → Stayed link label 0 b b
 unfolding anyBelow
 stayed-none link label b size = record { size = size; member = λ u k hu hk. sym (and-true (on b u k)) }
 
@@ -568,30 +568,30 @@ module _ {link label : List ℕ} {links v : ℕ} {a b c d : List ℕ} (D : Decla
   none-past u k hu = any-off _ links (λ l hl.
       ap (λ (x : Bool). ltb (endIn link l) 512 && (x && on label l k)) (ne-eqb (sourceIn link l) u (λ q. omega (arith, q, D .source l hl))) ∙ and-false (ltb (endIn link l) 512))
 
-  past-kept : (u k : ℕ) → 16 ≤ u → u < 18 → k < 512 → on c u k ≡ on b u k
+  past-kept : (u k : ℕ) → 16 ≤ u → u < rows → k < 512 → on c u k ≡ on b u k
   past-kept u k lu hu hk = T .member u k hu hk ∙ ap (λ (x : Bool). on b u k && not x) (none-past u k lu) ∙ and-true (on b u k)
 
   module _ {owner : List ℕ} {nodes : ℕ} (k : ℕ) (C : Carries link label owner links nodes) (hv : v < nodes) (hk : k < 512) where
     -- no walk stands past the nodes
-    past-none : (u : ℕ) → 16 ≤ u → u < 18 → on a u k ≡ false
+    past-none : (u : ℕ) → 16 ≤ u → u < rows → on a u k ≡ false
     past-none u lu hu = go (on a u k) refl
       where
         go : (t : Bool) → on a u k ≡ t → t ≡ false
         go false e = refl
         go true e = absurd (omega (arith, lu, S .reached owner nodes C .comes u k hu hk e .0))
 
-    out-row : on d 16 k ≡ isOut (fateIn (nextIn owner k) (endIn link) nodes 0 v)
+    out-row : on d outRow k ≡ isOut (fateIn (nextIn owner k) (endIn link) nodes 0 v)
     out-row =
-        G .else 16 k (omega arith) hk ∙ past-kept 16 k (omega arith) (omega arith) hk ∙ O .out k hk
-        ∙ ap (λ (x : Bool). x || anyBelow links (leavesBy link label a k)) (past-none 16 (omega arith) (omega arith))
+        G .else outRow k (omega arith) hk ∙ past-kept outRow k (omega arith) (omega arith) hk ∙ O .out k hk
+        ∙ ap (λ (x : Bool). x || anyBelow links (leavesBy link label a k)) (past-none outRow (omega arith) (omega arith))
         ∙ sym (out-is C k hk hv (S .reached owner nodes C) (S .within owner nodes C))
 
-    lost-row : on d 17 k ≡ isLost (fateIn (nextIn owner k) (endIn link) nodes 0 v)
+    lost-row : on d lostRow k ≡ isLost (fateIn (nextIn owner k) (endIn link) nodes 0 v)
     unfolding lostAt
     lost-row =
         G .lost k hk
         ∙ ap₂ _||_
-        (past-kept 17 k (omega arith) (omega arith) hk ∙ O .else 17 k (omega arith) hk (λ q. omega arith) ∙ past-none 17 (omega arith) (omega arith))
+        (past-kept lostRow k (omega arith) (omega arith) hk ∙ O .else lostRow k (omega arith) hk (λ q. omega arith) ∙ past-none lostRow (omega arith) (omega arith))
         (any-same (λ u. on c u k) (lostAt link label links a k) 16 (λ u hu.
         T .member u k (omega arith) hk ∙ ap (λ (x : Bool). x && not (anyBelow links (goesOn link label u k))) (O .else u k (omega arith) hk (λ q. omega arith))))
         ∙ sym (lost-is C k hk hv (S .reached owner nodes C) (S .within owner nodes C))

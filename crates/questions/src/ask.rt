@@ -169,7 +169,7 @@ fn count_fates(
     requires { ⌜ (v < h .nodes) × Words (now label) ⌝ }
     ensures { λ r. ⌜ r ≡ byAddress (stateOf h (now (link .entry)) (now (rule .entry)) (now (cut .entry)) (now (number .entry))) (askTally v) ⌝ }
 {
-    let mut stand = [0u64; 144];
+    let mut stand = [0u64; crate::stand::TABLE_WORDS];
     crate::stand::divide(link, label, h.links as usize, &mut stand, v as usize);
     let mut c = Counts {
         out: 0,
@@ -179,8 +179,8 @@ fn count_fates(
     let mut p: usize = 0;
     while p < places(h) {
         let atom = atom_at(number, Place(p));
-        let out = crate::stand::in_row(&stand, 16, atom);
-        let lost = crate::stand::in_row(&stand, 17, atom);
+        let out = crate::stand::in_row(&stand, crate::stand::OUT_ROW, atom);
+        let lost = crate::stand::in_row(&stand, crate::stand::LOST_ROW, atom);
         c = counted(c, out, lost, cut[p + 1] - cut[p]);
         p += 1;
     }

@@ -1,9 +1,9 @@
 // The walk of a packet to one atom: at a node it takes the owner's link, and at the link's end it stands at the node, or has ended.
 use meaning::Fate;
 use tables::Atom;
-ghost use mathlib.Core.Bool.{true, false};
+ghost use mathlib.Core.Bool.{false};
 ghost use mathlib.Core.Path.{_≡_};
-ghost use Prim.Native.Nat.{ℕ, _+_, _-_, _<_, _≤_};
+ghost use Prim.Native.Nat.{_+_, _-_, _<_, _≤_};
 ghost use Rattle.meaning.specs.Walk.{at, move, arrive, told, fateIn, comesTo};
 ghost use Rattle.lent.specs.Owners.{ownerIn, nextIn, endIn, Ends};
 ghost use Rattle.lent.specs.Nodes.{among, Off};
