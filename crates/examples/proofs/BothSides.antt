@@ -11,7 +11,7 @@ use Rattle.meaning.specs.Search.{tabulate}
 use Rattle.meaning.specs.Hall.{zeroes, fresh}
 use Rattle.meaning.specs.Labels.{names, isOn, wordOf, labelsOf}
 use Rattle.meaning.specs.Changes.{overwrite}
-use Rattle.meaning.specs.Step.{stepOf}
+use Rattle.meaning.specs.Step.{listRoom, stepOf}
 use Rattle.meaning.specs.Working.{stepIn}
 use Rattle.meaning.specs.Run.{start, Ran, runFrom}
 use Rattle.examples.specs.Lines.{Line, linesFrom, linesOf}
@@ -84,22 +84,22 @@ table =
     ∷ row (0x09 ∷ 0x00 ∷ []) (Tally 1 4278190079 16777216) []  -- lost by the drop or by no rule
     ∷ []
 
-by-places : linesFrom stepIn 2560 (length (bytesOf table)) fresh (bytesOf table) ≡ answersOf table
+by-places : linesFrom stepIn listRoom (length (bytesOf table)) fresh (bytesOf table) ≡ answersOf table
 unfolding bytesOf answersOf table opened
 by-places = refl
 
 -- THE TABLE
-pub sides : linesOf 2560 (bytesOf table) ≡ answersOf table
+pub sides : linesOf listRoom (bytesOf table) ≡ answersOf table
 unfolding linesOf
-sides = lines-in 2560 (length (bytesOf table)) fresh (bytesOf table) start ∙ by-places
+sides = lines-in listRoom (length (bytesOf table)) fresh (bytesOf table) start ∙ by-places
 
 -- the labels that these records leave, the word of each link's first 64 atoms: link 0 has atoms 1, 3, 4 and 5, link 1 atom 3, link 2 atoms 1 and 4, link 3 atom 5
-labels-by-places : tabulate 4 0 (λ l. getD (labelsOf (runFrom stepIn 50 0 fresh (zeroes 2560) (bytesOf table) .left)) (8 * l) 0) ≡ 58 ∷ 8 ∷ 18 ∷ 32 ∷ []
+labels-by-places : tabulate 4 0 (λ l. getD (labelsOf (runFrom stepIn 50 0 fresh (zeroes listRoom) (bytesOf table) .left)) (8 * l) 0) ≡ 58 ∷ 8 ∷ 18 ∷ 32 ∷ []
 unfolding bytesOf table opened overwrite runFrom names isOn wordOf tabulate labelsOf
 labels-by-places = refl
 
-pub labels : tabulate 4 0 (λ l. getD (labelsOf (runFrom stepOf 50 0 fresh (zeroes 2560) (bytesOf table) .left)) (8 * l) 0) ≡ 58 ∷ 8 ∷ 18 ∷ 32 ∷ []
-labels = ap (λ (x : Ran). tabulate 4 0 (λ l. getD (labelsOf (x .left)) (8 * l) 0)) (run-in 50 0 fresh (zeroes 2560) (bytesOf table) start) ∙ labels-by-places
+pub labels : tabulate 4 0 (λ l. getD (labelsOf (runFrom stepOf 50 0 fresh (zeroes listRoom) (bytesOf table) .left)) (8 * l) 0) ≡ 58 ∷ 8 ∷ 18 ∷ 32 ∷ []
+labels = ap (λ (x : Ran). tabulate 4 0 (λ l. getD (labelsOf (x .left)) (8 * l) 0)) (run-in 50 0 fresh (zeroes listRoom) (bytesOf table) start) ∙ labels-by-places
 
 -- ---- link 64 passes, link 65 gives 6
 
@@ -112,13 +112,13 @@ unfoldable pub crowd : List ℕ
 unfolding links
 crowd = 0x01 ∷ 0x01 ∷ links 65
 
-crowd-by-places : linesFrom stepIn 2560 (length crowd) fresh crowd ≡ replicate 65 (record { answer = Ok; written = [] }) ++ (record { answer = Refused 6; written = [] } ∷ [])
+crowd-by-places : linesFrom stepIn listRoom (length crowd) fresh crowd ≡ replicate 65 (record { answer = Ok; written = [] }) ++ (record { answer = Refused 6; written = [] } ∷ [])
 unfolding crowd opened
 crowd-by-places = refl
 
-pub full-links : linesOf 2560 crowd ≡ replicate 65 (record { answer = Ok; written = [] }) ++ (record { answer = Refused 6; written = [] } ∷ [])
+pub full-links : linesOf listRoom crowd ≡ replicate 65 (record { answer = Ok; written = [] }) ++ (record { answer = Refused 6; written = [] } ∷ [])
 unfolding linesOf
-full-links = lines-in 2560 (length crowd) fresh crowd start ∙ crowd-by-places
+full-links = lines-in listRoom (length crowd) fresh crowd start ∙ crowd-by-places
 
 -- ---- where a step stays
 

@@ -5,11 +5,10 @@ use Prim.Native.Nat.{ℕ, zero, suc, _+_}
 use lib.Dec.{eqb}
 use lib.ListN.{length, drop}
 use Rattle.meaning.specs.declared.Answer.{Answer}
-use Rattle.meaning.specs.declared.Record.{Record}
 use Rattle.meaning.specs.Search.{pick}
 use Rattle.meaning.specs.Hall.{State}
 use Rattle.meaning.specs.Changes.{overwrite}
-use Rattle.meaning.specs.Records.{readOf}
+use Rattle.meaning.specs.Records.{readOf, Question}
 use Rattle.meaning.specs.Step.{Done, stepWith, stepOf}
 use Rattle.meaning.specs.Working.{stepIn}
 use Rattle.meaning.specs.Run.{Came, Ran, runFrom, more}
@@ -20,7 +19,7 @@ use Rattle.meaning.proofs.sound.Kept.{sound}
 
 pub step-in : (m : State) → Sound m → stepOf m ≡ stepIn m
 unfolding stepOf stepIn
-step-in m S = ap {B = ℕ → List ℕ → Done} (λ (f : Record → Answer) (room : ℕ) (s : List ℕ). stepWith f m room (readOf s)) (fun-ext (by-place m (S .cuts) (S .aligned)))
+step-in m S = ap {B = ℕ → List ℕ → Done} (λ (f : Question → Answer) (room : ℕ) (s : List ℕ). stepWith f m room (readOf s)) (fun-ext (by-place m (S .cuts) (S .aligned)))
 
 -- a run of a step that is done, with k steps more
 abbrev ranOn : (State → ℕ → List ℕ → Done) → ℕ → ℕ → List ℕ → List ℕ → Done → Ran

@@ -7,3 +7,5 @@ pub mod Listing
 pub mod BothSides
 -- the premises of demand 3 can be met
 pub mod PremisesMet
+-- the laws cited for addresses of another width
+pub mod AnyWidth

@@ -12,8 +12,8 @@ ghost use mathlib.Core.List.{List};
 ghost use Prim.Native.Nat.{ℕ, _+_, _*_, _≤_, _<_};
 ghost use lib.ListN.{length};
 ghost use Rattle.meaning.specs.Hall.{endNumber};
-ghost use Rattle.meaning.specs.Records.{phaseOf};
-ghost use Rattle.meaning.specs.Step.{checked, refusal};
+ghost use Rattle.meaning.specs.Records.{link, sortOf, phaseOf};
+ghost use Rattle.meaning.specs.Step.{listRoom, checked, setUpRefusal};
 ghost use Rattle.meaning.specs.Box.{stateOf, Held, left, leftFor, leftOf};
 ghost use Rattle.meaning.specs.declared.Read.the-variants.{Got};
 ghost use Rattle.lent.specs.Steps.{takes};
@@ -21,18 +21,13 @@ ghost use Rattle.meaning.specs.declared.Record.the-variants.{Hall as aHall, Lin
 
 // The phase that a record belongs in.
 fn phase_of(what: Record) -> u8
-    ensures { λ r. ⌜ r ≡ phaseOf what ⌝ }
+    ensures { λ r. ⌜ r ≡ phaseOf (sortOf what) ⌝ }
 {
     match what {
         Record::Hall(_) => 0,
         Record::Link(_, _, _) => 1,
         Record::Close => 1,
-        Record::Insert(_, _, _, _, _) => 2,
-        Record::Remove(_) => 2,
-        Record::Loop => 2,
-        Record::Fate(_, _) => 2,
-        Record::Reach(_, _) => 2,
-        Record::Tally(_) => 2,
+        _ => 2,
     }
 }
 
@@ -74,7 +69,7 @@ fn take_hall(h: Hall, passed: usize, nodes: u8) -> Step
 
 // The checks of a link record, in their order.
 fn check_link(h: Hall, source: u8, code: u8, number: u8) -> Check
-    ensures { λ c. ⌜ ((link rule cut places : List ℕ) → checked c ≡ refusal (stateOf h link rule cut places) (aLink source code number)) ⌝ }
+    ensures { λ c. ⌜ ((links rule cut places : List ℕ) → checked c ≡ setUpRefusal (stateOf h links rule cut places .plan) (link source code number)) ⌝ }
 {
     if 64 <= h.links {
         return Check::Refused(6);
@@ -158,7 +153,7 @@ fn take_close(h: Hall, passed: usize) -> Step
 // What a record before the close does: only the links may change.
 fn set_up(h: Hall, link: &mut [u16; 64], passed: usize, what: Record) -> Step
     requires { ⌜ h .nodes ≤ 16 ⌝ }
-    ensures { λ r. ⌜ ((rule cut places label owner list : List ℕ) → Held (stateOf h (now (link .entry)) rule cut places) label owner → h .phase ≡ phaseOf what → (h .phase ≡ 2 → ⊥)
+    ensures { λ r. ⌜ ((rule cut places label owner list : List ℕ) → Held (stateOf h (now (link .entry)) rule cut places) label owner → h .phase ≡ phaseOf (sortOf what) → (h .phase ≡ 2 → ⊥)
         → left (r .answer) (r .passed) (stateOf (r .hall) (now (link .exit)) rule cut places) label owner list ≡ takes (stateOf h (now (link .entry)) rule cut places) list passed what) ⌝ }
 {
     match what {
@@ -183,7 +178,7 @@ fn act(
     what: Record,
 ) -> Step
     requires { ⌜ Held (stateOf h (now link) (now rule) (now cut) (now number)) (now label) (now owner) ⌝ }
-    requires { ⌜ (h .phase ≡ phaseOf what) × (2560 ≤ length (now list)) × (h .phase ≡ 2) ⌝ }
+    requires { ⌜ (h .phase ≡ phaseOf (sortOf what)) × (listRoom ≤ length (now list)) × (h .phase ≡ 2) ⌝ }
     ensures { λ s. ⌜ left (s .answer) (s .passed) (stateOf (s .hall) (now (link .entry)) (now (rule .exit)) (now (cut .exit)) (now (number .exit))) (now (label .exit)) (now (owner .exit)) (now (list .exit))
         ≡ leftFor (stateOf h (now (link .entry)) (now (rule .entry)) (now (cut .entry)) (now (number .entry))) (now (list .entry)) (Got what passed) ⌝ }
 {
@@ -233,7 +228,7 @@ pub fn take_record(
     ensures { λ s. ⌜ left (s .answer) (s .passed) (stateOf (s .hall) (now (link .exit)) (now (rule .exit)) (now (cut .exit)) (now (number .exit))) (now (label .exit)) (now (owner .exit)) (now (list .exit))
         ≡ leftOf (stateOf h (now (link .entry)) (now (rule .entry)) (now (cut .entry)) (now (number .entry))) (now (list .entry)) (now (bytes .entry)) ⌝ }
 {
-    if list.len() < 2560 {
+    if list.len() < meaning::LIST_ROOM {
         return only(h, 0, Answer::Refused(0));
     }
     match records::read_record(bytes) {

@@ -12,7 +12,8 @@ use Rattle.meaning.specs.Labels.{labelsOf}
 use Rattle.meaning.specs.Working.{ownersOf}
 use Rattle.meaning.specs.Run.{start}
 use Rattle.meaning.specs.Questions.{byAddress}
-use Rattle.meaning.specs.Step.{stepOf}
+use Rattle.meaning.specs.Changes.{entryWords}
+use Rattle.meaning.specs.Step.{listRoom, stepOf}
 use Rattle.meaning.specs.Box.{Held, left, leftOf}
 use Rattle.meaning.proofs.records.Passed.{passed-few}
 use Rattle.lent.proofs.Steps.{left-said, left-passed, held-after}
@@ -25,7 +26,7 @@ pub record Between (bytes : List ℕ) (m : State) (label owner list out : List �
   pub held : Held m label owner
   pub inside : at ≤ length bytes
   pub slow : place ≤ at
-  pub entries : 2560 ≤ length list
+  pub entries : listRoom ≤ length list
   pub room : Room out end
 
 -- a fresh box
@@ -50,7 +51,7 @@ module _ (bytes : List ℕ) (m : State) (label owner list out : List ℕ) (at pl
       same : a ≡ stepOf m (length list) s .answer
       same = said-once a (stepOf m (length list) s .answer) (left-said m m′ label′ owner′ list list′ s a n e)
 
-      go : (x : Answer) → a ≡ x → entriesOf x * 5 ≤ length list′
+      go : (x : Answer) → a ≡ x → entriesOf x * entryWords ≤ length list′
       go (Changed j) q = omega (arith, lists m (length list) s (g .held .came) j (sym same ∙ q) .few, g .entries)
       go End q = omega arith
       go (Refused j) q = omega arith

@@ -3,6 +3,7 @@ use mathlib.Core.Path.{_≡_}
 use mathlib.Core.List.{List}
 use Prim.Native.Nat.{ℕ, _*_, _≤_}
 use lib.ListN.{length}
+use Rattle.meaning.specs.Changes.{entryWords}
 use Rattle.meaning.specs.declared.Answer.{Answer}
 use Rattle.meaning.specs.declared.Answer.the-variants.{End, Refused, Ok, Changed, Loop, NoLoop, Went, Yes, No, Tally}
 
@@ -26,4 +27,4 @@ entriesOf (Tally o l r) = 0
 
 -- the entries that an answer counts stand in the change list, five words each
 pub record HasEntries (a : Answer) (list : List ℕ) : Type 0 where
-  pub entries : entriesOf a * 5 ≤ length list
+  pub entries : entriesOf a * entryWords ≤ length list

@@ -5,6 +5,8 @@ use meaning::Hall;
 ghost use mathlib.Core.Path.{_≡_};
 ghost use Prim.Native.Nat.{_+_, _*_, _≤_};
 ghost use lib.ListN.{length};
+ghost use Rattle.meaning.specs.Changes.{entryWords};
+ghost use Rattle.meaning.specs.Step.{listRoom};
 ghost use Rattle.meaning.specs.Box.{stateOf, Held};
 ghost use Rattle.hallcheck.specs.Room.{Room, HasEntries, entriesOf};
 
@@ -36,7 +38,7 @@ fn make_room(out: &[u8], end: usize) -> usize
 // A line for each of so many entries of the change list.
 fn print_changes(out: &mut [u8], from: usize, list: &[u64], count: usize) -> usize
     requires { ⌜ Room (now out) from ⌝ }
-    requires { ⌜ count * 5 ≤ length (now list) ⌝ }
+    requires { ⌜ count * entryWords ≤ length (now list) ⌝ }
     ensures { λ r. ⌜ Room (now (out .exit)) r ⌝ }
 {
     let mut end = from;
@@ -98,7 +100,7 @@ fn print_all(
     out: &mut [u8],
 )
     requires { ⌜ Held (stateOf fresh (now link) (now rule) (now cut) (now number)) (now label) (now owner) ⌝ }
-    requires { ⌜ 2560 ≤ length (now list) ⌝ }
+    requires { ⌜ listRoom ≤ length (now list) ⌝ }
     requires { ⌜ Room (now out) 0 ⌝ }
 {
     let mut h = fresh;
@@ -128,7 +130,7 @@ fn check(bytes: &[u8]) {
     let mut number = [0u16; 512];
     let mut label = [0u64; 512];
     let mut owner = [0u16; 8192];
-    let mut list = [0u64; 2560];
+    let mut list = [0u64; meaning::LIST_ROOM];
     let mut out = io::large_buffer();
     let fresh = stream::clear_box(
         &mut link,

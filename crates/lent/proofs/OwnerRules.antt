@@ -4,7 +4,7 @@ use mathlib.Core.Logic.{⊎-elim}
 use mathlib.Core.Bool.{Bool, true, false}
 use mathlib.Core.List.{List}
 use mathlib.Core.Option.{none, some}
-use Prim.Native.Nat.{ℕ, _+_, _*_, _≤_, _<_}
+use Prim.Native.Nat.{ℕ, _+_, _*_, _^_, _≤_, _<_}
 use native.Mathlib.Omega.{arith}
 use lib.Dec.{ltb}
 use lib.ListN.{getD}
@@ -33,7 +33,7 @@ unfolding ownerWord
 owner-once m n x y hx hy e = go (ltb x 256) refl (ltb y 256) refl e
   where
     go : (s : Bool) → ltb x 256 ≡ s → (t : Bool) → ltb y 256 ≡ t
-        → pick s (linkOf (ruleAt m x) * 512 + (x + 1)) 0 ≡ pick t (linkOf (ruleAt n y) * 512 + (y + 1)) 0 → x ≡ y
+        → pick s (linkOf (m .width) (ruleAt m x) * 512 + (x + 1)) 0 ≡ pick t (linkOf (n .width) (ruleAt n y) * 512 + (y + 1)) 0 → x ≡ y
     go true p true q e = omega (arith, ltb-true x 256 p, ltb-true y 256 q)
     go true p false q e = absurd (omega arith)
     go false p true q e = absurd (omega arith)
@@ -44,8 +44,8 @@ pub via-owner : (m : State) (w : ℕ) → via (ownerWord m w) ≡ linkOrNone (li
 unfolding via ownerWord linkFor linkOrNone
 via-owner m w = go (ltb w 256) refl
   where
-    go : (t : Bool) → ltb w 256 ≡ t → via (pick t (linkOf (ruleAt m w) * 512 + (w + 1)) 0) ≡ linkOrNone (pick t (some (linkOf (ruleAt m w))) none)
-    go true e = via-word (linkOf (ruleAt m w)) w (link-small (ruleAt m w)) (ltb-true w 256 e)
+    go : (t : Bool) → ltb w 256 ≡ t → via (pick t (linkOf (m .width) (ruleAt m w) * 512 + (w + 1)) 0) ≡ linkOrNone (pick t (some (linkOf (m .width) (ruleAt m w))) none)
+    go true e = via-word (linkOf (m .width) (ruleAt m w)) w (link-small (m .width) (ruleAt m w)) (ltb-true w 256 e)
     go false e = refl
 
 pub owner-source : (m : State) → Sound m → (v a : ℕ) → (ownerWord m (winner m v a) ≡ 0 → ⊥) → sourceOf m (via (ownerWord m (winner m v a))) ≡ v
@@ -54,48 +54,49 @@ owner-source m S v a n = let o = won-at m S v a n in ap (sourceOf m) (via-won m 
 -- ---- the places that a rule covers
 
 -- they are those from f to below t
-pub record Spans (cut : List ℕ) (k z f t : ℕ) : Type 0 where
-  pub from : getD cut f 0 ≡ lower z
-  pub to : getD cut t 0 ≡ upper z
+pub record Spans (width : ℕ) (cut : List ℕ) (k z f t : ℕ) : Type 0 where
+  pub from : getD cut f 0 ≡ lower width z
+  pub to : getD cut t 0 ≡ upper width z
   pub order : f ≤ t
   pub within : t ≤ k
 
-module _ {cut : List ℕ} {k z f t : ℕ} (C : Cuts top cut k) where
+module _ {width : ℕ} {cut : List ℕ} {k z f t : ℕ} (C : Cuts (2 ^ width) cut k) where
   -- where its ends are boundaries, they are found by their places
-  pub spans : Boundary cut k (lower z) → Boundary cut k (upper z) → f ≡ placeOf cut k (lower z) → t ≡ placeOf cut k (upper z) → Spans cut k z f t
+  pub spans : Boundary cut k (lower width z) → Boundary cut k (upper width z) → f ≡ placeOf cut k (lower width z) → t ≡ placeOf cut k (upper width z) → Spans width cut k z f t
   unfolding isCut lower upper
   spans lo hi p q =
-      let low : getD cut f 0 ≡ lower z = ap (λ (i : ℕ). getD cut i 0) p ∙ eqb-true _ _ (boundary-is C (lower z) lo) in
+      let low : getD cut f 0 ≡ lower width z = ap (λ (i : ℕ). getD cut i 0) p ∙ eqb-true _ _ (boundary-is C (lower width z) lo) in
       record {
         from = low;
-        to = ap (λ (i : ℕ). getD cut i 0) q ∙ eqb-true _ _ (boundary-is C (upper z) hi);
-        order = omega (arith, place-max cut k (upper z) f (omega (arith, place-le cut k (lower z))) (omega arith));
-        within = omega (arith, place-le cut k (upper z));
+        to = ap (λ (i : ℕ). getD cut i 0) q ∙ eqb-true _ _ (boundary-is C (upper width z) hi);
+        order = omega (arith, place-max cut k (upper width z) f (omega (arith, place-le cut k (lower width z))) (omega arith));
+        within = omega (arith, place-le cut k (upper width z));
       }
 
-  module _ (P : Spans cut k z f t) (q : ℕ) where
-    pub in-span : f ≤ q → q < t → (lower z ≤ getD cut q 0) × (getD cut q 0 < upper z)
+  module _ (P : Spans width cut k z f t) (q : ℕ) where
+    pub in-span : f ≤ q → q < t → (lower width z ≤ getD cut q 0) × (getD cut q 0 < upper width z)
     in-span a b =
         (omega (arith, P .from, P .within, cut-le C f q a (omega (arith, P .within))), omega (arith, P .to, C .up q t b (P .within)))
 
-    pub of-span : q < k → covers z (getD cut q 0) ≡ true → (f ≤ q) × (q < t)
+    pub of-span : q < k → covers width z (getD cut q 0) ≡ true → (f ≤ q) × (q < t)
     of-span h e =
-        let b = covers-is z (getD cut q 0) .0 e in (
+        let b = covers-is width z (getD cut q 0) .0 e in (
           ⊎-elim (λ (g : f ≤ q). g) (λ (g : q < f). absurd (omega (arith, C .up q f g (omega (arith, P .order, P .within)), P .from, b .0))) (le-or-lt f q),
           ⊎-elim (λ (g : t ≤ q). absurd (omega (arith, cut-le C t q g (omega arith), P .to, b .1))) (λ (g : q < t). g) (le-or-lt t q),
         )
 
 module _ {m n : State} {r z v : ℕ} (J : Joined m n r z v) where
   -- the ends of a rule are boundaries
-  pub rule-spans : {f t : ℕ} → f ≡ placeOf (n .cut) (n .atoms) (lower z) → t ≡ placeOf (n .cut) (n .atoms) (upper z) → Spans (n .cut) (n .atoms) z f t
+  pub rule-spans : {f t : ℕ} → f ≡ placeOf (n .atoms .cut) (n .atoms .count) (lower (n .width) z) → t ≡ placeOf (n .atoms .cut) (n .atoms .count) (upper (n .width) z) → Spans (n .width) (n .atoms .cut) (n .atoms .count) z f t
   rule-spans p q =
       let a = J .more .aligned r (J .slot) (ap live (J .word) ∙ J .alive) in
       spans (J .more .cuts) (rw (J .word) at (a .0)) (rw (J .word) at (a .1)) p q
 
   pub node-small : v < 16
+  unfolding sourceOf
   node-small =
       let h = J .more .named r (J .slot) (ap live (J .word) ∙ J .alive) in
-      omega (arith, J .node, J .more .sources (linkOf z) (omega (arith, ap linkOf (J .word))), J .more .small)
+      omega (arith, J .node, J .more .laid .sources (linkOf (n .width) z) (omega (arith, ap (linkOf (n .width)) (J .word))), J .more .laid .small)
 
 -- ---- where the winners differ
 
@@ -107,7 +108,7 @@ pub record Differ (m n : State) (cut : List ℕ) (k v f t : ℕ) : Type 0 where
   pub alike : (u a : ℕ) → winner m u a ≡ winner n u a → ownerWord m (winner m u a) ≡ ownerWord n (winner n u a)
   pub still : (u q : ℕ) → q < k → ((u ≡ v) × (f ≤ q) × (q < t) → ⊥) → winner m u (getD cut q 0) ≡ winner n u (getD cut q 0)
 
-pub differ-in : {m n : State} {r z v : ℕ} {cut : List ℕ} {k f t : ℕ} → Joined m n r z v → Cuts top cut k → Spans cut k z f t → Differ m n cut k v f t
+pub differ-in : {m n : State} {r z v : ℕ} {cut : List ℕ} {k f t : ℕ} → Joined m n r z v → Cuts (top n) cut k → Spans (n .width) cut k z f t → Differ m n cut k v f t
 differ-in {m} {n} {r} {z} {v} {cut} J C P = record {
   node = node-small J;
   order = P .order;
@@ -119,7 +120,7 @@ differ-in {m} {n} {r} {z} {v} {cut} J C P = record {
       d (w .0, s .0, s .1));
 }
 
-pub differ-out : {m n : State} {r z v : ℕ} {cut : List ℕ} {k f t : ℕ} → Joined m n r z v → Cuts top cut k → Spans cut k z f t → Differ n m cut k v f t
+pub differ-out : {m n : State} {r z v : ℕ} {cut : List ℕ} {k f t : ℕ} → Joined m n r z v → Cuts (top n) cut k → Spans (n .width) cut k z f t → Differ n m cut k v f t
 differ-out J C P =
     let d = differ-in J C P in
     record {

@@ -45,32 +45,32 @@ some-via e l q = go (eqb e 0) refl q
     go false r f = (eqb-false e 0 r, cc)
 
 -- THE LAW: in a box in order the labels say which link a packet takes
-pub carries-of : (m : State) (label owner : List ℕ) → Whole m label owner → Carries (m .link) label owner (m .links) (m .nodes)
+pub carries-of : (m : State) (label owner : List ℕ) → Whole m label owner → Carries (m .plan .link) label owner (m .plan .links) (m .plan .nodes)
 unfolding nextIn sourceOf
 carries-of m label owner W = record {
-  few = W .sound .small;
+  few = W .sound .laid .small;
   source = λ l h. source-small m (W .sound) l;
   takes = λ l k hl hk e.
-      let h : l < 64 = omega (arith, W .sound .few) in
+      let h : l < 64 = omega (arith, W .sound .laid .few) in
       let s = source-small m (W .sound) l in
-      let q = eqb-true (via (ownerIn owner k (sourceIn (m .link) l))) l (sym (W .agrees .bits l k h hk) ∙ e) in
-      rw (lt-ltb (sourceIn (m .link) l) 16 s) (via-some (ownerIn owner k (sourceIn (m .link) l)) l h q);
+      let q = eqb-true (via (ownerIn owner k (sourceIn (m .plan .link) l))) l (sym (W .agrees .bits l k h hk) ∙ e) in
+      rw (lt-ltb (sourceIn (m .plan .link) l) 16 s) (via-some (ownerIn owner k (sourceIn (m .plan .link) l)) l h q);
   taken = λ k u l hk e. go k u l hk (decLt u 16) e;
 }
   where
-    named : (k u l : ℕ) → k < 512 → u < 16 → (ownerIn owner k u ≡ 0 → ⊥) → via (ownerIn owner k u) ≡ l → Taken (m .link) label (m .links) (m .nodes) k u l
+    named : (k u l : ℕ) → k < 512 → u < 16 → (ownerIn owner k u ≡ 0 → ⊥) → via (ownerIn owner k u) ≡ l → Taken (m .plan .link) label (m .plan .links) (m .plan .nodes) k u l
     named k u l hk hu n q =
         let o = won m (W .sound) owner (W .owned) k u hk hu n in
-        let d : l < m .links = omega (arith, sym q, via-won m u (ownerIn owner k u) o, W .sound .named (o .rule) (o .within) (o .alive)) in
-        let s : sourceIn (m .link) l ≡ u = rw q at (starts m label owner W .here k u hk hu n) in
+        let d : l < m .plan .links = omega (arith, sym q, via-won m u (ownerIn owner k u) o, W .sound .named (o .rule) (o .within) (o .alive)) in
+        let s : sourceIn (m .plan .link) l ≡ u = rw q at (starts m label owner W .here k u hk hu n) in
         record {
           declared = d;
           here = s;
-          has = W .agrees .bits l k (omega (arith, W .sound .few)) hk ∙ ap (λ (x : ℕ). eqb (via (ownerIn owner k x)) l) s ∙ eq-eqb (via (ownerIn owner k u)) l q;
+          has = W .agrees .bits l k (omega (arith, W .sound .laid .few)) hk ∙ ap (λ (x : ℕ). eqb (via (ownerIn owner k x)) l) s ∙ eq-eqb (via (ownerIn owner k u)) l q;
           inside = rw q at (ends-in m label owner W k u hk hu n .1);
         }
 
-    go : (k u l : ℕ) → k < 512 → Dec (u < 16) → pick (ltb u 16) (viaLink (ownerIn owner k u)) none ≡ some l → Taken (m .link) label (m .links) (m .nodes) k u l
+    go : (k u l : ℕ) → k < 512 → Dec (u < 16) → pick (ltb u 16) (viaLink (ownerIn owner k u)) none ≡ some l → Taken (m .plan .link) label (m .plan .links) (m .plan .nodes) k u l
     go k u l hk (yes h) e =
         let f = some-via (ownerIn owner k u) l (rw (lt-ltb u 16 h) at e) in
         named k u l hk h (f .0) (f .1)

@@ -10,7 +10,7 @@ use Rattle.meaning.specs.Hall.{State}
 use Rattle.meaning.specs.Winner.{winner}
 use Rattle.meaning.specs.Labels.{on}
 use Rattle.meaning.specs.Working.{ownerWord}
-use Rattle.meaning.specs.Changes.{entriesAt, overwrite}
+use Rattle.meaning.specs.Changes.{entriesAt, overwrite, noLink}
 use Rattle.meaning.specs.Step.{listed}
 use Rattle.meaning.specs.Tables.{Sound}
 
@@ -18,9 +18,9 @@ use Rattle.meaning.specs.Tables.{Sound}
 abbrev pub ownerIn : List ℕ → ℕ → ℕ → ℕ
 ownerIn owner k v = getD owner (16 * k + v) 0
 
--- the link that an owner names, with 64 for none
+-- the link that an owner names, or `noLink`
 unfoldable pub via : ℕ → ℕ
-via e = pick (eqb e 0) 64 (e / 512 % 64)
+via e = pick (eqb e 0) noLink (e / 512 % 64)
 
 unfoldable pub viaLink : ℕ → Option ℕ
 viaLink e = pick (eqb e 0) none (some (e / 512 % 64))
@@ -40,8 +40,8 @@ pub record Words (label : List ℕ) : Type 0 where
 -- the owners are those of the state: at each place the winner at each node, and nothing past the atoms
 pub record Owned (m : State) (owner : List ℕ) : Type 0 where
   pub long : length owner ≡ 8192
-  pub right : (p v : ℕ) → p < m .atoms → v < 16 → ownerIn owner (getD (m .number) p 0) v ≡ ownerWord m (winner m v (getD (m .cut) p 0))
-  pub rest : (k v : ℕ) → m .atoms ≤ k → k < 512 → v < 16 → ownerIn owner k v ≡ 0
+  pub right : (p v : ℕ) → p < m .atoms .count → v < 16 → ownerIn owner (getD (m .atoms .number) p 0) v ≡ ownerWord m (winner m v (getD (m .atoms .cut) p 0))
+  pub rest : (k v : ℕ) → m .atoms .count ≤ k → k < 512 → v < 16 → ownerIn owner k v ≡ 0
 
 -- the labels agree with the owners: an atom is on a link just where its owner at the link's source names it
 pub record Agrees (link label owner : List ℕ) : Type 0 where
@@ -64,7 +64,7 @@ pub record Numbered (owner : List ℕ) : Type 0 where
 pub record Whole (m : State) (label owner : List ℕ) : Type 0 where
   pub sound : Sound m
   pub owned : Owned m owner
-  pub agrees : Agrees (m .link) label owner
+  pub agrees : Agrees (m .plan .link) label owner
 
 -- what an update leaves beside the state: the tables in order, the list and its length
 pub record Listed (m m′ : State) (v : ℕ) (label owner list list′ : List ℕ) (entries : ℕ) : Type 0 where

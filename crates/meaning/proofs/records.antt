@@ -1,8 +1,8 @@
 -- Reading a record, its checks, and one step.
 -- the fields that were read fit their bytes
 pub mod Fields
--- what holds of the four questions holds of every question
-pub mod Kinds
+-- a record and its sort determine each other
+pub mod Sorts
 -- what bytes begin with: nothing, what cannot be read, or a whole record
 pub mod Begins
 -- the reader, byte by byte

@@ -1,5 +1,5 @@
 -- A rule's word, its rank and what it covers.
--- a rule's word and a link's word: each part is read back from it
+-- a rule's word, over the width of its addresses, and a link's word: each part is read back from it
 pub mod Words
 -- the best by rank of those that are eligible
 pub mod Ranks

@@ -1,5 +1,5 @@
 -- Every state that came by records is in order.
--- the fresh state is in order; what each record keeps, all records keep
+-- the empty state is in order; what each record keeps, all records keep; a box has IPv4 addresses
 pub mod Sound
 -- each record keeps the state in order
 pub mod Kept

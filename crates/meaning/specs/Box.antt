@@ -7,7 +7,7 @@ use lib.ListN.{length}
 use Rattle.meaning.specs.declared.Answer.{Answer}
 use Rattle.meaning.specs.declared.Hall.{Hall}
 use Rattle.meaning.specs.declared.Read.{Read}
-use Rattle.meaning.specs.Hall.{State}
+use Rattle.meaning.specs.Hall.{ipv4, State}
 use Rattle.meaning.specs.Labels.{labelsOf}
 use Rattle.meaning.specs.Working.{ownersOf}
 use Rattle.meaning.specs.Changes.{overwrite}
@@ -16,17 +16,13 @@ use Rattle.meaning.specs.Step.{Done, stepWith, stepOf}
 use Rattle.meaning.specs.Run.{Ran, runOf, Came}
 use Rattle.meaning.specs.Answers.{Said, said}
 
--- the state that the struct and four of the tables hold
+-- the state that the struct and four of the tables hold, over IPv4 addresses
 abbrev pub stateOf : Hall → List ℕ → List ℕ → List ℕ → List ℕ → State
 stateOf h link rule cut number = record {
-  phase = h .phase;
-  nodes = h .nodes;
-  links = h .links;
-  atoms = h .atoms;
-  link = link;
+  width = ipv4;
+  plan = record { phase = h .phase; nodes = h .nodes; links = h .links; link = link };
   rule = rule;
-  cut = cut;
-  number = number;
+  atoms = record { count = h .atoms; cut = cut; number = number };
 }
 
 -- THE PREMISE: the box came from a fresh one by records, with its labels and its owners

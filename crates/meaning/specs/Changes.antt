@@ -10,15 +10,22 @@ use Rattle.meaning.specs.Search.{pick}
 use Rattle.meaning.specs.Hall.{State}
 use Rattle.meaning.specs.Winner.{winner, nextAt}
 
--- a link, with 64 for "none"
+-- what stands for no link, where a link is a number below 64
+abbrev pub noLink : ℕ
+noLink = 64
+
 unfoldable pub linkOrNone : Option ℕ → ℕ
-linkOrNone none = 64
+linkOrNone none = noLink
 linkOrNone (some l) = l
+
+-- how many words an entry has
+abbrev pub entryWords : ℕ
+entryWords = 5
 
 module _ (old new : State) (v : ℕ) where
   -- the winner at v changed at place p of the new state: the rule, so that its link may be the same
   unfoldable pub changedAt : ℕ → Bool
-  changedAt p = not (eqb (winner old v (getD (new .cut) p 0)) (winner new v (getD (new .cut) p 0)))
+  changedAt p = not (eqb (winner old v (getD (new .atoms .cut) p 0)) (winner new v (getD (new .atoms .cut) p 0)))
 
   -- the changed places among the first n
   unfoldable pub changedPlaces : ℕ → List ℕ
@@ -28,11 +35,11 @@ module _ (old new : State) (v : ℕ) where
   -- an entry: atom number, lower end, upper end, old link, new link
   unfoldable pub entryAt : ℕ → List ℕ
   entryAt p =
-      getD (new .number) p 0
-      ∷ getD (new .cut) p 0
-      ∷ getD (new .cut) (p + 1) 0
-      ∷ linkOrNone (nextAt old (getD (new .cut) p 0) v)
-      ∷ linkOrNone (nextAt new (getD (new .cut) p 0) v)
+      getD (new .atoms .number) p 0
+      ∷ getD (new .atoms .cut) p 0
+      ∷ getD (new .atoms .cut) (p + 1) 0
+      ∷ linkOrNone (nextAt old (getD (new .atoms .cut) p 0) v)
+      ∷ linkOrNone (nextAt new (getD (new .atoms .cut) p 0) v)
       ∷ []
 
   -- the entries of these places

@@ -16,7 +16,7 @@ names (some k) l = eqb k l
 
 -- atom k is on link l: at k's place, the winner at l's source names l
 unfoldable pub isOn : State → ℕ → ℕ → Bool
-isOn m l k = anyBelow (m .atoms) (λ p. eqb (getD (m .number) p 0) k && names (nextAt m (getD (m .cut) p 0) (sourceOf m l)) l)
+isOn m l k = anyBelow (m .atoms .count) (λ p. eqb (getD (m .atoms .number) p 0) k && names (nextAt m (getD (m .atoms .cut) p 0) (sourceOf m l)) l)
 
 -- the word of n bits whose bit j says f j
 unfoldable pub wordOf : ℕ → (ℕ → Bool) → ℕ

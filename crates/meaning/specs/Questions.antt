@@ -2,28 +2,27 @@
 use mathlib.Core.Bool.{Bool, true, false}
 use mathlib.Core.Option.{Option, none, some}
 use Prim.Native.Nat.{ℕ}
-use Rattle.meaning.specs.declared.Record.{Record}
-use Rattle.meaning.specs.declared.Record.the-variants.{Hall as hall, Link as link, Close as close, Insert as insert, Remove as remove, Loop as loop, Fate as fate, Reach as reach, Tally as tally}
 use Rattle.meaning.specs.declared.Answer.{Answer}
-use Rattle.meaning.specs.declared.Answer.the-variants.{Ok, Loop, NoLoop, Went, Yes, No, Tally}
+use Rattle.meaning.specs.declared.Answer.the-variants.{Loop, NoLoop, Went, Yes, No, Tally}
 use Rattle.meaning.specs.declared.Fate.{Fate}
 use Rattle.meaning.specs.declared.Fate.the-variants.{Out, Lost, Round}
 use Rattle.meaning.specs.Search.{anyBelow, lowestBelow, countBelow}
 use Rattle.meaning.specs.Hall.{top, State, endOf}
 use Rattle.meaning.specs.Winner.{nextAt}
+use Rattle.meaning.specs.Records.{Question, loop, fate, reach, tally}
 use Rattle.meaning.specs.Walk.{goesRound, onCircle, comesTo, fateIn}
 
 -- what becomes of a packet to address a at node v
 unfoldable pub fateOf : State → ℕ → ℕ → Fate
-fateOf m v a = fateIn (nextAt m a) (endOf m) (m .nodes) 0 v
+fateOf m v a = fateIn (nextAt m a) (endOf m) (m .plan .nodes) 0 v
 
 -- some node's walk goes round at address a
 unfoldable pub loopsAt : State → ℕ → Bool
-loopsAt m a = anyBelow (m .nodes) (goesRound (nextAt m a) (endOf m) (m .nodes))
+loopsAt m a = anyBelow (m .plan .nodes) (goesRound (nextAt m a) (endOf m) (m .plan .nodes))
 
 -- the lowest node on a circle at address a
 unfoldable pub circleAt : State → ℕ → Option ℕ
-circleAt m a = lowestBelow (m .nodes) (onCircle (nextAt m a) (endOf m) (m .nodes))
+circleAt m a = lowestBelow (m .plan .nodes) (onCircle (nextAt m a) (endOf m) (m .plan .nodes))
 
 unfoldable pub someNode : ℕ → Option ℕ → Answer
 someNode a (some v) = Loop a v
@@ -35,7 +34,7 @@ loopFrom m none = NoLoop
 
 -- from node v a packet to address a comes to node w
 unfoldable pub reachesAt : State → ℕ → ℕ → ℕ → Bool
-reachesAt m v w a = comesTo (nextAt m a) (endOf m) (m .nodes) v w
+reachesAt m v w a = comesTo (nextAt m a) (endOf m) (m .plan .nodes) v w
 
 unfoldable pub reachFrom : Option ℕ → Answer
 reachFrom (some a) = Yes a
@@ -59,17 +58,12 @@ isRound Round = true
 
 -- the answers, by any way to find the lowest address with P and to count the addresses with P
 module _ (least : (ℕ → Bool) → Option ℕ) (count : (ℕ → Bool) → ℕ) (m : State) where
-  unfoldable pub asked : Record → Answer
-  asked (hall n) = Ok
-  asked (link s c e) = Ok
-  asked close = Ok
-  asked (insert r l p n t) = Ok
-  asked (remove r) = Ok
+  unfoldable pub asked : Question → Answer
   asked loop = loopFrom m (least (loopsAt m))
   asked (fate v a) = Went (fateOf m v a)
   asked (reach v w) = reachFrom (least (reachesAt m v w))
   asked (tally v) = Tally (count (λ a. isOut (fateOf m v a))) (count (λ a. isLost (fateOf m v a))) (count (λ a. isRound (fateOf m v a)))
 
 -- THE MEANING: over all addresses
-unfoldable pub byAddress : State → Record → Answer
-byAddress m = asked (lowestBelow top) (countBelow top) m
+unfoldable pub byAddress : State → Question → Answer
+byAddress m = asked (lowestBelow (top m)) (countBelow (top m)) m

@@ -1,4 +1,4 @@
--- The records: one byte of kind, then a body whose length the kind fixes, with its fields in order; and the order of the records.
+-- The records: one byte of kind, then a body whose length the kind fixes, with its fields in order; their sorts; and their order.
 -- s are the bytes from the record's first on; a reader's place is a place of the whole stream. Assumes nothing: these are definitions.
 use mathlib.Core.List.{List, [], _∷_}
 use mathlib.Core.Bool.{Bool, true, false, _&&_, not}
@@ -10,7 +10,7 @@ use Rattle.meaning.specs.declared.Read.{Read}
 use Rattle.meaning.specs.declared.Read.the-variants.{End, Refused, Got}
 use Rattle.meaning.specs.declared.Placed.{Placed}
 use Rattle.meaning.specs.declared.Record.{Record}
-use Rattle.meaning.specs.declared.Record.the-variants.{Hall as hall, Link as link, Close as close, Insert as insert, Remove as remove, Loop as loop, Fate as fate, Reach as reach, Tally as tally}
+use Rattle.meaning.specs.declared.Record.the-variants.{Hall, Link, Close, Insert, Remove, Loop, Fate, Reach, Tally}
 
 -- the number in n bytes from byte i on, the highest byte first
 unfoldable pub number : List ℕ → ℕ → ℕ → ℕ
@@ -28,19 +28,19 @@ bodyOf k = getD (0 ∷ 1 ∷ 3 ∷ 0 ∷ 10 ∷ 2 ∷ 0 ∷ 5 ∷ 2 ∷ 1 ∷ []
 unfoldable pub recordOf : List ℕ → Record
 recordOf s =
     getD
-    (close
-    ∷ hall (number s 1 1)
-    ∷ link (number s 1 1) (number s 2 1) (number s 3 1)
-    ∷ close
-    ∷ insert (number s 1 2) (number s 3 1) (number s 4 4) (number s 8 1) (number s 9 2)
-    ∷ remove (number s 1 2)
-    ∷ loop
-    ∷ fate (number s 1 1) (number s 2 4)
-    ∷ reach (number s 1 1) (number s 2 1)
-    ∷ tally (number s 1 1)
+    (Close
+    ∷ Hall (number s 1 1)
+    ∷ Link (number s 1 1) (number s 2 1) (number s 3 1)
+    ∷ Close
+    ∷ Insert (number s 1 2) (number s 3 1) (number s 4 4) (number s 8 1) (number s 9 2)
+    ∷ Remove (number s 1 2)
+    ∷ Loop
+    ∷ Fate (number s 1 1) (number s 2 4)
+    ∷ Reach (number s 1 1) (number s 2 1)
+    ∷ Tally (number s 1 1)
     ∷ [])
     (getD s 0 0)
-    close
+    Close
 
 -- what s begins with: nothing, a kind that is unknown (1) or a body that is cut off (2), or a record and its length
 unfoldable pub readOf : List ℕ → Read
@@ -59,26 +59,51 @@ placeAfter at (Got r n) = at + n
 unfoldable pub placedAt : List ℕ → ℕ → Placed
 placedAt stream at = record { read = readOf (drop at stream); place = placeAfter at (readOf (drop at stream)) }
 
--- the phase that a record belongs in: one hall, then links, then one close, then every other kind
-unfoldable pub phaseOf : Record → ℕ
-phaseOf (hall n) = 0
-phaseOf (link s c e) = 1
-phaseOf close = 1
-phaseOf (insert r l p n t) = 2
-phaseOf (remove r) = 2
-phaseOf loop = 2
-phaseOf (fate v a) = 2
-phaseOf (reach v w) = 2
-phaseOf (tally v) = 2
+-- ---- the sorts: what sets the hall up, what updates the rules, what asks
+
+pub data SetUp : Type 0 where
+  hall : ℕ → SetUp
+  link : ℕ → ℕ → ℕ → SetUp
+  close : SetUp
+
+pub data Update : Type 0 where
+  insert : ℕ → ℕ → ℕ → ℕ → ℕ → Update
+  remove : ℕ → Update
+
+pub data Question : Type 0 where
+  loop : Question
+  fate reach : ℕ → ℕ → Question
+  tally : ℕ → Question
+
+pub data Sort : Type 0 where
+  setUp : SetUp → Sort
+  update : Update → Sort
+  question : Question → Sort
+
+unfoldable pub sortOf : Record → Sort
+sortOf (Hall n) = setUp (hall n)
+sortOf (Link s c e) = setUp (link s c e)
+sortOf Close = setUp close
+sortOf (Insert r l p n t) = update (insert r l p n t)
+sortOf (Remove r) = update (remove r)
+sortOf Loop = question loop
+sortOf (Fate v a) = question (fate v a)
+sortOf (Reach v w) = question (reach v w)
+sortOf (Tally v) = question (tally v)
+
+-- the phase that a record belongs in: one hall, then links, then one close, then every other sort
+unfoldable pub setUpPhase : SetUp → ℕ
+setUpPhase (hall n) = 0
+setUpPhase (link s c e) = 1
+setUpPhase close = 1
+
+unfoldable pub phaseOf : Sort → ℕ
+phaseOf (setUp u) = setUpPhase u
+phaseOf (update u) = 2
+phaseOf (question q) = 2
 
 -- the records that ask and change nothing
-unfoldable pub isQuestion : Record → Bool
-isQuestion (hall n) = false
-isQuestion (link s c e) = false
-isQuestion close = false
-isQuestion (insert r l p n t) = false
-isQuestion (remove r) = false
-isQuestion loop = true
-isQuestion (fate v a) = true
-isQuestion (reach v w) = true
-isQuestion (tally v) = true
+unfoldable pub isQuestion : Sort → Bool
+isQuestion (setUp u) = false
+isQuestion (update u) = false
+isQuestion (question q) = true

@@ -3,11 +3,11 @@
 use mathlib.Core.Path.{_≡_}
 use mathlib.Core.List.{List}
 use mathlib.Core.Bool.{true, false}
-use Prim.Native.Nat.{ℕ, _+_, _≤_, _<_}
+use Prim.Native.Nat.{ℕ, _+_, _/_, _%_, _≤_, _<_}
 use lib.ListN.{length, getD}
-use Rattle.meaning.specs.Hall.{State, top, sourceOf, endOf}
+use Rattle.meaning.specs.Hall.{Plan, State, top}
 use Rattle.meaning.specs.Rule.{live, lower, upper, linkOf, rank, overlap}
-use Rattle.meaning.specs.Winner.{ruleAt}
+use Rattle.meaning.specs.Winner.{ruleAt, nodeFor}
 
 -- cut p is the lower end of place p, and cut (p + 1) its upper end
 pub record Cuts (top : ℕ) (cut : List ℕ) (n : ℕ) : Type 0 where
@@ -37,25 +37,33 @@ pub record Boundary (cut : List ℕ) (n x : ℕ) : Type 0 where
   pub within : place ≤ n
   pub is : getD cut place 0 ≡ x
 
+abbrev pub BoundaryOf : State → ℕ → Type 0
+BoundaryOf m x = Boundary (m .atoms .cut) (m .atoms .count) x
+
 -- every live rule starts and ends at a boundary
 abbrev pub Aligned : State → Type 0
-Aligned m = (i : ℕ) → i < 256 → live (ruleAt m i) ≡ true → Boundary (m .cut) (m .atoms) (lower (ruleAt m i)) × Boundary (m .cut) (m .atoms) (upper (ruleAt m i))
+Aligned m = (i : ℕ) → i < 256 → live (ruleAt m i) ≡ true → BoundaryOf m (lower (m .width) (ruleAt m i)) × BoundaryOf m (upper (m .width) (ruleAt m i))
 
+-- the plan: its tables have their lengths, a link starts at a node and may end at one, and there is nothing before the hall record
+pub record Laid (p : Plan) : Type 0 where
+  pub long : length (p .link) ≡ 64
+  pub few : p .links ≤ 64
+  pub small : p .nodes ≤ 16
+  pub sources : (l : ℕ) → l < p .links → getD (p .link) l 0 / 1024 < p .nodes
+  pub ends : (l : ℕ) → l < p .links → getD (p .link) l 0 % 1024 < 256 → getD (p .link) l 0 % 1024 < p .nodes
+  pub unused : (l : ℕ) → p .links ≤ l → getD (p .link) l 0 ≡ 0
+  pub bare : p .phase ≡ 0 → (p .links ≡ 0) × (p .nodes ≡ 0)
+
+-- the whole state; no rule is live before the close
 pub record Sound (m : State) : Type 0 where
-  pub cuts : Cuts top (m .cut) (m .atoms)
-  pub numbers : Numbers (m .number) (m .atoms)
+  pub wide : 0 < m .width
+  pub laid : Laid (m .plan)
+  pub cuts : Cuts (top m) (m .atoms .cut) (m .atoms .count)
+  pub numbers : Numbers (m .atoms .number) (m .atoms .count)
   pub rules : length (m .rule) ≡ 256
   pub aligned : Aligned m
-  pub named : (i : ℕ) → i < 256 → live (ruleAt m i) ≡ true → linkOf (ruleAt m i) < m .links
+  pub named : (i : ℕ) → i < 256 → live (ruleAt m i) ≡ true → linkOf (m .width) (ruleAt m i) < m .plan .links
   pub distinct : (i j : ℕ) → i < 256 → j < 256 → live (ruleAt m i) ≡ true → live (ruleAt m j) ≡ true
-      → sourceOf m (linkOf (ruleAt m i)) ≡ sourceOf m (linkOf (ruleAt m j)) → rank (ruleAt m i) ≡ rank (ruleAt m j)
-      → overlap (ruleAt m i) (ruleAt m j) ≡ true → i ≡ j
-  pub long : length (m .link) ≡ 64
-  pub few : m .links ≤ 64
-  pub small : m .nodes ≤ 16
-  pub sources : (l : ℕ) → l < m .links → sourceOf m l < m .nodes
-  pub ends : (l : ℕ) → l < m .links → endOf m l < 256 → endOf m l < m .nodes
-  pub unused : (l : ℕ) → m .links ≤ l → getD (m .link) l 0 ≡ 0
-  -- no link and no node before the hall, and no rule before the close
-  pub bare : m .phase ≡ 0 → (m .links ≡ 0) × (m .nodes ≡ 0)
-  pub idle : m .phase < 2 → (i : ℕ) → live (ruleAt m i) ≡ false
+      → nodeFor m (ruleAt m i) ≡ nodeFor m (ruleAt m j) → rank (m .width) (ruleAt m i) ≡ rank (m .width) (ruleAt m j)
+      → overlap (m .width) (ruleAt m i) (ruleAt m j) ≡ true → i ≡ j
+  pub idle : m .plan .phase < 2 → (i : ℕ) → live (ruleAt m i) ≡ false

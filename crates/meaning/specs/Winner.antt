@@ -22,16 +22,20 @@ best E r (suc k) = better E r (best E r k) k
 unfoldable pub ruleAt : State → ℕ → ℕ
 ruleAt m i = getD (m .rule) i 0
 
+-- the node of the rule with the word w: its link's source
+abbrev pub nodeFor : State → ℕ → ℕ
+nodeFor m w = sourceOf m (linkOf (m .width) w)
+
 -- rule i is live, stands at node v, and covers address a
 unfoldable pub eligible : State → ℕ → ℕ → ℕ → Bool
-eligible m v a i = live (ruleAt m i) && (eqb (sourceOf m (linkOf (ruleAt m i))) v && covers (ruleAt m i) a)
+eligible m v a i = live (ruleAt m i) && (eqb (nodeFor m (ruleAt m i)) v && covers (m .width) (ruleAt m i) a)
 
 unfoldable pub winner : State → ℕ → ℕ → ℕ
-winner m v a = best (eligible m v a) (λ i. rank (ruleAt m i)) 256
+winner m v a = best (eligible m v a) (λ i. rank (m .width) (ruleAt m i)) 256
 
 -- the link that rule w names, or none for 256
 unfoldable pub linkFor : State → ℕ → Option ℕ
-linkFor m w = pick (ltb w 256) (some (linkOf (ruleAt m w))) none
+linkFor m w = pick (ltb w 256) (some (linkOf (m .width) (ruleAt m w))) none
 
 -- the link that a packet to address a takes at node v
 unfoldable pub nextAt : State → ℕ → ℕ → Option ℕ

@@ -7,30 +7,29 @@ use mathlib.Core.Option.{Option, none, some}
 use Prim.Native.Nat.{ℕ, zero, suc, _+_, _-_, _*_, _/_, _%_}
 use lib.Dec.{ltb, eqb}
 use lib.ListN.{getD}
-use Rattle.meaning.specs.declared.Record.{Record}
 use Rattle.meaning.specs.declared.Answer.{Answer}
 use Rattle.meaning.specs.Search.{pick, orElse, lowestBelow, tabulate}
 use Rattle.meaning.specs.Hall.{State}
 use Rattle.meaning.specs.Rule.{linkOf}
 use Rattle.meaning.specs.Winner.{ruleAt, winner}
 use Rattle.meaning.specs.Questions.{asked}
-use Rattle.meaning.specs.Records.{readOf}
+use Rattle.meaning.specs.Records.{Question, readOf}
 use Rattle.meaning.specs.Step.{Done, stepWith}
 
 -- ---- each atom's owners: its winner at each node
 
 -- rule w as an owner, 0 for none: its link, then its number, counted from 1
 unfoldable pub ownerWord : State → ℕ → ℕ
-ownerWord m w = pick (ltb w 256) (linkOf (ruleAt m w) * 512 + (w + 1)) 0
+ownerWord m w = pick (ltb w 256) (linkOf (m .width) (ruleAt m w) * 512 + (w + 1)) 0
 
 -- the winner at node v of the atom at a place, or none
 unfoldable pub ownerAt : State → ℕ → Option ℕ → ℕ
 ownerAt m v none = 0
-ownerAt m v (some p) = ownerWord m (winner m v (getD (m .cut) p 0))
+ownerAt m v (some p) = ownerWord m (winner m v (getD (m .atoms .cut) p 0))
 
 -- the place of atom k
 unfoldable pub placeWith : State → ℕ → Option ℕ
-placeWith m k = lowestBelow (m .atoms) (λ p. eqb (getD (m .number) p 0) k)
+placeWith m k = lowestBelow (m .atoms .count) (λ p. eqb (getD (m .atoms .number) p 0) k)
 
 -- the owner of atom k at node v has the word 16 k + v
 unfoldable pub ownersOf : State → List ℕ
@@ -47,8 +46,8 @@ unfoldable pub countPlace : List ℕ → ℕ → (ℕ → Bool) → ℕ
 countPlace cut zero P = 0
 countPlace cut (suc p) P = countPlace cut p P + pick (P (getD cut p 0)) (getD cut (suc p) 0 - getD cut p 0) 0
 
-unfoldable pub byPlace : State → Record → Answer
-byPlace m = asked (leastPlace (m .cut) (m .atoms)) (countPlace (m .cut) (m .atoms)) m
+unfoldable pub byPlace : State → Question → Answer
+byPlace m = asked (leastPlace (m .atoms .cut) (m .atoms .count)) (countPlace (m .atoms .cut) (m .atoms .count)) m
 
 -- a step whose questions are answered so
 unfoldable pub stepIn : State → ℕ → List ℕ → Done

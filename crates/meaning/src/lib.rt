@@ -1,5 +1,11 @@
 // The types of the box: what it keeps by value, the records that it reads and the answers that it gives.
 
+// How many words a lent change list must have room for: an entry of five for each of 512 atoms.
+pub const LIST_ROOM: usize = 2560;
+
+// What stands for no link in a change list, where a link is a number below 64.
+pub const NO_LINK: u64 = 64;
+
 // What becomes of a packet: out by a link or lost at a node, each with the hops made; or round for ever.
 pub enum Fate {
     Out(u8, u8),

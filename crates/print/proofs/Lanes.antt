@@ -1,20 +1,24 @@
 -- Numbers side by side in one word, each in a lane of its own: dividing all at once by a product, a shift and a mask. Assumes nothing.
 use mathlib.Core.Path.{_≡_, sym, ap, ap₂, subst₂, _∙_}
 use mathlib.Core.List.{_++_}
-use Prim.Native.Nat.{ℕ, _+_, _-_, _*_, _/_, _%_, _<_, _≤_}
+use Prim.Native.Nat.{ℕ, _+_, _-_, _*_, _/_, _%_, _^_, _<_, _≤_}
 use native.Mathlib.Omega.{arith}
 use lib.Bits.{bitAnd, and-block, and-mask}
 use Rattle.print.specs.Text.{pair, eight, packed}
 
--- the hundreds of a number below 10,000 in a lane of 32 bits, in front of other lanes
+-- half a word: a lane of four bytes
+abbrev lane : ℕ
+lane = 256 ^ 4
+
+-- the hundreds of a number below 10,000 in a lane of four bytes, in front of other lanes
 hundreds-lane : (a w m : ℕ) → a < 10000
-    → bitAnd ((a + w * 4294967296) * 5243 / 524288) (m * 4294967296 + 127) ≡ a / 100 + bitAnd (w * 5243 / 524288) m * 4294967296
+    → bitAnd ((a + w * lane) * 5243 / 524288) (m * lane + 127) ≡ a / 100 + bitAnd (w * 5243 / 524288) m * lane
 hundreds-lane a w m h =
     let low = a / 100 + w * 5243 % 524288 * 8192 in
-    let parts : (a + w * 4294967296) * 5243 / 524288 ≡ w * 5243 / 524288 * 4294967296 + low = omega arith in
-    ap (λ (x : ℕ). bitAnd x (m * 4294967296 + 127)) parts
+    let parts : (a + w * lane) * 5243 / 524288 ≡ w * 5243 / 524288 * lane + low = omega arith in
+    ap (λ (x : ℕ). bitAnd x (m * lane + 127)) parts
     ∙ and-block 32 (w * 5243 / 524288) m low 127 (omega arith) (omega arith)
-    ∙ ap (λ (x : ℕ). bitAnd (w * 5243 / 524288) m * 4294967296 + x) (and-mask low 7)
+    ∙ ap (λ (x : ℕ). bitAnd (w * 5243 / 524288) m * lane + x) (and-mask low 7)
     ∙ omega arith
 
 -- the tens of a number below 100 in a lane of 16 bits, in front of other lanes
@@ -27,13 +31,13 @@ tens-lane a w m h =
     ∙ ap (λ (x : ℕ). bitAnd (w * 103 / 1024) m * 65536 + x) (and-mask low 4)
     ∙ omega arith
 
--- two lanes of 32 bits
+-- two such lanes
 both-hundreds : (a b : ℕ) → a < 10000 → b < 10000
-    → bitAnd ((a + b * 4294967296) * 5243 / 524288) 545460846719 ≡ a / 100 + b / 100 * 4294967296
+    → bitAnd ((a + b * lane) * 5243 / 524288) 545460846719 ≡ a / 100 + b / 100 * lane
 both-hundreds a b ha hb =
     let e : b * 5243 / 524288 ≡ b / 100 = omega arith in
     let last : bitAnd (b * 5243 / 524288) 127 ≡ b / 100 = rw e (and-mask (b / 100) 7 ∙ omega arith) in
-    hundreds-lane a b 127 ha ∙ ap (λ (x : ℕ). a / 100 + x * 4294967296) last
+    hundreds-lane a b 127 ha ∙ ap (λ (x : ℕ). a / 100 + x * lane) last
 
 -- four lanes of 16 bits
 abbrev lanes : ℕ → ℕ → ℕ → ℕ → ℕ
@@ -63,7 +67,7 @@ all-digits a b c d = omega arith
 -- THE STEPS of `pack_eight`: its halves, their hundreds, the pairs, their tens, and the bytes
 module _ (n : ℕ) (h : n < 100000000) where
   abbrev halves : ℕ
-  halves = n / 10000 + n % 10000 * 4294967296
+  halves = n / 10000 + n % 10000 * lane
 
   abbrev hundreds : ℕ
   hundreds = bitAnd (halves * 5243 / 524288) 545460846719
@@ -74,7 +78,7 @@ module _ (n : ℕ) (h : n < 100000000) where
   abbrev tens : ℕ
   tens = bitAnd (pairs * 103 / 1024) 4222189076152335
 
-  pub hundreds-are : hundreds ≡ n / 10000 / 100 + n % 10000 / 100 * 4294967296
+  pub hundreds-are : hundreds ≡ n / 10000 / 100 + n % 10000 / 100 * lane
   hundreds-are = both-hundreds (n / 10000) (n % 10000) (omega arith) (omega arith)
 
   -- the four pairs of digits

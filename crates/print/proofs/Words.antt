@@ -1,7 +1,7 @@
 -- The bytes of a word, taken out of it one by one and stored one behind the other. Assumes nothing.
 use mathlib.Core.Path.{_≡_, refl, ap, _∙_}
 use mathlib.Core.List.{List, [], _∷_}
-use Prim.Native.Nat.{ℕ, _+_, _-_, _*_, _/_, _%_, _<_}
+use Prim.Native.Nat.{ℕ, _+_, _-_, _*_, _/_, _%_, _^_, _<_}
 use native.Mathlib.Omega.{arith}
 use native.Mathlib.Numerals.{add-one, add-two, add-three, add-four, add-five, add-six, add-seven}
 use lib.ListN.{length, set}
@@ -31,27 +31,27 @@ lowest : (w b rest : ℕ) → b < 256 → w ≡ b + rest * 256 → w % 256 ≡ b
 lowest w b rest h e = omega arith
 
 module _ (w a b c d : ℕ) (ha : a < 256) (hb : b < 256) (hc : c < 256) (hd : d < 256) where
-  four-parts : w ≡ packed (a ∷ b ∷ c ∷ d ∷ []) → w % 256 ∷ w / 256 % 256 ∷ w / 65536 % 256 ∷ w / 16777216 ∷ [] ≡ a ∷ b ∷ c ∷ d ∷ []
+  four-parts : w ≡ packed (a ∷ b ∷ c ∷ d ∷ []) → w % 256 ∷ w / 256 % 256 ∷ w / 256 ^ 2 % 256 ∷ w / 256 ^ 3 ∷ [] ≡ a ∷ b ∷ c ∷ d ∷ []
   four-parts p =
       let e₁ : w % 256 ≡ a = omega arith in
       let e₂ = lowest (w / 256) b (packed (c ∷ d ∷ [])) hb (omega arith) in
-      let e₃ = lowest (w / 65536) c (packed (d ∷ [])) hc (omega arith) in
-      let e₄ : w / 16777216 ≡ d = omega arith in
+      let e₃ = lowest (w / 256 ^ 2) c (packed (d ∷ [])) hc (omega arith) in
+      let e₄ : w / 256 ^ 3 ≡ d = omega arith in
       rw (e₁, e₂, e₃, e₄)
 
   eight-parts : (e f g h : ℕ) → e < 256 → f < 256 → g < 256 → h < 256 → w ≡ packed (a ∷ b ∷ c ∷ d ∷ e ∷ f ∷ g ∷ h ∷ [])
-      → w % 256 ∷ w / 256 % 256 ∷ w / 65536 % 256 ∷ w / 16777216 % 256
-      ∷ w / 4294967296 % 256 ∷ w / 1099511627776 % 256 ∷ w / 281474976710656 % 256 ∷ w / 72057594037927936 ∷ []
+      → w % 256 ∷ w / 256 % 256 ∷ w / 256 ^ 2 % 256 ∷ w / 256 ^ 3 % 256
+      ∷ w / 256 ^ 4 % 256 ∷ w / 256 ^ 5 % 256 ∷ w / 256 ^ 6 % 256 ∷ w / 256 ^ 7 ∷ []
       ≡ a ∷ b ∷ c ∷ d ∷ e ∷ f ∷ g ∷ h ∷ []
   eight-parts e f g h he hf hg hh p =
       let e₁ : w % 256 ≡ a = omega arith in
       let e₂ = lowest (w / 256) b (packed (c ∷ d ∷ e ∷ f ∷ g ∷ h ∷ [])) hb (omega arith) in
-      let e₃ = lowest (w / 65536) c (packed (d ∷ e ∷ f ∷ g ∷ h ∷ [])) hc (omega arith) in
-      let e₄ = lowest (w / 16777216) d (packed (e ∷ f ∷ g ∷ h ∷ [])) hd (omega arith) in
-      let e₅ = lowest (w / 4294967296) e (packed (f ∷ g ∷ h ∷ [])) he (omega arith) in
-      let e₆ = lowest (w / 1099511627776) f (packed (g ∷ h ∷ [])) hf (omega arith) in
-      let e₇ = lowest (w / 281474976710656) g (packed (h ∷ [])) hg (omega arith) in
-      let e₈ : w / 72057594037927936 ≡ h = omega arith in
+      let e₃ = lowest (w / 256 ^ 2) c (packed (d ∷ e ∷ f ∷ g ∷ h ∷ [])) hc (omega arith) in
+      let e₄ = lowest (w / 256 ^ 3) d (packed (e ∷ f ∷ g ∷ h ∷ [])) hd (omega arith) in
+      let e₅ = lowest (w / 256 ^ 4) e (packed (f ∷ g ∷ h ∷ [])) he (omega arith) in
+      let e₆ = lowest (w / 256 ^ 5) f (packed (g ∷ h ∷ [])) hf (omega arith) in
+      let e₇ = lowest (w / 256 ^ 6) g (packed (h ∷ [])) hg (omega arith) in
+      let e₈ : w / 256 ^ 7 ≡ h = omega arith in
       rw (e₁, e₂, e₃, e₄, e₅, e₆, e₇, e₈)
 
 -- digits are bytes
@@ -68,12 +68,12 @@ two-bytes n h =
     rw (e₁, e₂)
 
 pub four-bytes : (n w : ℕ) → n < 10000 → w ≡ packed (four n)
-    → w % 256 ∷ w / 256 % 256 ∷ w / 65536 % 256 ∷ w / 16777216 ∷ [] ≡ four n
+    → w % 256 ∷ w / 256 % 256 ∷ w / 256 ^ 2 % 256 ∷ w / 256 ^ 3 ∷ [] ≡ four n
 four-bytes n w h = four-parts w _ _ _ _ (high (n / 100) (omega arith)) (low (n / 100)) (high (n % 100) (omega arith)) (low (n % 100))
 
 pub eight-bytes : (n w : ℕ) → n < 100000000 → w ≡ packed (eight n)
-    → w % 256 ∷ w / 256 % 256 ∷ w / 65536 % 256 ∷ w / 16777216 % 256
-    ∷ w / 4294967296 % 256 ∷ w / 1099511627776 % 256 ∷ w / 281474976710656 % 256 ∷ w / 72057594037927936 ∷ []
+    → w % 256 ∷ w / 256 % 256 ∷ w / 256 ^ 2 % 256 ∷ w / 256 ^ 3 % 256
+    ∷ w / 256 ^ 4 % 256 ∷ w / 256 ^ 5 % 256 ∷ w / 256 ^ 6 % 256 ∷ w / 256 ^ 7 ∷ []
     ≡ eight n
 eight-bytes n w h =
     let a = n / 10000 in

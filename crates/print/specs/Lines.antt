@@ -6,6 +6,7 @@ use Prim.Native.Nat.{ℕ}
 use Prim.Native.Char.{code}
 use Prim.Native.String.{String, [] as nothing, _∷_ as _then_}
 use lib.Dec.{eqb}
+use Rattle.meaning.specs.Changes.{noLink}
 use Rattle.meaning.specs.Search.{pick}
 use Rattle.meaning.specs.Answers.{Word, Said, said}
 use Rattle.meaning.specs.Answers.Word.{end, refused, ok, loop, none, out, lost, round, yes, no, tally}
@@ -40,9 +41,9 @@ values (n ∷ ns) = 32 ∷ (decimal n ++ values ns)
 unfoldable pub line : ℕ → Answer → List ℕ
 line place a = decimal place ++ (32 ∷ (word (said a .word) ++ values (said a .values)))
 
--- a link, or - where there is none, which is written 64 in a change list
+-- a link, or - where there is none
 unfoldable pub linkText : ℕ → List ℕ
-linkText l = pick (eqb l 64) (bytes "-") (decimal l)
+linkText l = pick (eqb l noLink) (bytes "-") (decimal l)
 
 -- AN ENTRY'S LINE: atom, lower end, upper end, old link, new link
 unfoldable pub change : ℕ → ℕ → ℕ → ℕ → ℕ → List ℕ

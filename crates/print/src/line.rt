@@ -48,7 +48,7 @@ fn put_link(buf: &mut [u8], at: usize, link: u64, after: u8) -> usize
     requires { ⌜ at + 21 ≤ length (now buf) ⌝ }
     ensures { λ r. ⌜ Wrote 21 (linkText link ++ (after ∷ [])) (now (buf .entry)) (now (buf .exit)) at r ⌝ }
 {
-    if link == 64 {
+    if link == meaning::NO_LINK {
         let next = put_byte(buf, at, b'-');
         return put_byte(buf, next, after);
     }

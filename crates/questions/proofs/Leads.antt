@@ -14,7 +14,7 @@ use lib.Dec.{eqb}
 use lib.ListN.{length, getD, set}
 use lib.Seq.{getD-set-same, getD-set-other}
 use borrow.Author.Tests.{eq-eqb, eqb-true, not-false, le-ltb}
-use Rattle.meaning.specs.declared.Record.the-variants.{Loop as loop, Reach as reach}
+use Rattle.meaning.specs.Records.{loop, reach}
 use Rattle.meaning.specs.declared.Answer.the-variants.{NoLoop, No}
 use Rattle.meaning.specs.Hall.{State}
 use Rattle.meaning.specs.Labels.{bit, on}
@@ -194,7 +194,7 @@ toward-all lead w = record { start = in-all w; back = λ v u h f i. in-all v h }
 
 -- ---- the walks of all atoms
 
-pub together : (m : State) (label owner : List ℕ) → Whole m label owner → Together (m .link) label owner
+pub together : (m : State) (label owner : List ℕ) → Whole m label owner → Together (m .plan .link) label owner
 together m label owner W = record { agrees = W .agrees; starts = starts m label owner W; ends = ends-of m label owner W }
 
 -- no move leads on from a node that is none of 16
@@ -313,16 +313,16 @@ strayed next end v w i u to here before C h e n = go (comesTo next end n v w) re
 -- ---- the answers
 
 -- where no node lies on a circle of leads, there is no loop
-pub no-loop : (m : State) (label owner : List ℕ) → Whole m label owner → (off : ℕ) → OffWalks (m .link) label off → off ≡ 65535 → byAddress m loop ≡ NoLoop
+pub no-loop : (m : State) (label owner : List ℕ) → Whole m label owner → (off : ℕ) → OffWalks (m .plan .link) label off → off ≡ 65535 → byAddress m loop ≡ NoLoop
 no-loop m label owner W off O e =
     loop-none m label owner W (λ p h u l.
-    O .each owner (together m label owner W) (m .nodes) (getD (m .number) p 0) (small-atom m label owner W p h) .none-on u
-    (rw e (in-all u (omega (arith, W .sound .small)))))
+    O .each owner (together m label owner W) (m .plan .nodes) (getD (m .atoms .number) p 0) (small-atom m label owner W p h) .none-on u
+    (rw e (in-all u (omega (arith, W .sound .laid .small)))))
 
 -- where no leads go from v to w, no walk does
-pub no-reach : (m : State) (label owner : List ℕ) → Whole m label owner → (v w to : ℕ) → TowardWalks (m .link) label w to → v < 16 → bit to v ≡ 0
+pub no-reach : (m : State) (label owner : List ℕ) → Whole m label owner → (v w to : ℕ) → TowardWalks (m .plan .link) label w to → v < 16 → bit to v ≡ 0
     → byAddress m (reach v w) ≡ No
 unfolding after
 no-reach m label owner W v w to F h e =
     reach-none m label owner W v w (λ q l.
-    strayed _ _ v w 0 v to refl (λ k b. absurd (omega arith)) (F .each owner (together m label owner W) (getD (m .number) q 0) (small-atom m label owner W q l)) h e (m .nodes))
+    strayed _ _ v w 0 v to refl (λ k b. absurd (omega arith)) (F .each owner (together m label owner W) (getD (m .atoms .number) q 0) (small-atom m label owner W q l)) h e (m .plan .nodes))

@@ -31,8 +31,8 @@ use Rattle.meaning.proofs.base.Bits.{zero-bits, set-bit, clear-bit, shifted, or
 use Rattle.questions.specs.Standing.{Declared, Filled, JoinedRow, TakenAway, Kept, CarriedOn, Leaving, SettledBut, Along, Round, Spread, Outward, Stayed, GatheredRow, Gathered, Divided}
 
 -- a box in order has links that start at nodes
-pub declared-of : {m : State} {label owner : List ℕ} → Whole m label owner → Declared (m .link) (m .links)
-declared-of {m} {label} {owner} W = record { few = W .sound .few; source = carries-of m label owner W .source }
+pub declared-of : {m : State} {label owner : List ℕ} → Whole m label owner → Declared (m .plan .link) (m .plan .links)
+declared-of {m} {label} {owner} W = record { few = W .sound .laid .few; source = carries-of m label owner W .source }
 
 -- ---- a row written word by word
 

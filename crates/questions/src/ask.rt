@@ -7,14 +7,14 @@ use meaning::Record;
 use tables::Place;
 use tables::atom_at;
 ghost use mathlib.Core.Path.{_≡_};
-ghost use Prim.Native.Nat.{ℕ, _+_, _-_, _<_, _≤_};
+ghost use Prim.Native.Nat.{_+_, _^_, _<_, _≤_};
 ghost use Rattle.meaning.specs.Questions.{fateOf, isOut, isLost, byAddress};
 ghost use Rattle.meaning.specs.declared.Fate.{Fate as Went};
 ghost use Rattle.meaning.specs.Box.{stateOf, Held};
 ghost use Rattle.meaning.specs.Step.{replyTo};
 ghost use Rattle.meaning.specs.Answers.{said};
-ghost use Rattle.meaning.specs.declared.Record.the-variants.{Loop as askLoop, Reach as askReach, Tally as askTally};
-ghost use Rattle.meaning.specs.Hall.{top};
+ghost use Rattle.meaning.specs.Records.{loop as askLoop, reach as askReach, tally as askTally};
+ghost use Rattle.meaning.specs.Hall.{ipv4};
 ghost use Rattle.lent.specs.Owners.{Words, Whole};
 ghost use Rattle.questions.specs.Tallied.{Counted};
 
@@ -130,7 +130,7 @@ struct Counts {
 
 // A packet that goes out, is lost, or else goes round, for so many addresses more.
 fn counted(c: Counts, out: bool, lost: bool, width: u64) -> Counts
-    requires { ⌜ (c .out + width ≤ top) × (c .lost + width ≤ top) × (c .round + width ≤ top) ⌝ }
+    requires { ⌜ (c .out + width ≤ 2 ^ ipv4) × (c .lost + width ≤ 2 ^ ipv4) × (c .round + width ≤ 2 ^ ipv4) ⌝ }
     ensures { λ r. ⌜ ((f : Went) → isOut f ≡ out → isLost f ≡ lost → Counted c f width r) ⌝ }
 {
     if out {

@@ -69,7 +69,7 @@ fn main() {
     let before_two = stop_of(&cut_off, &mut short);
     say(before_two, b'\n');
     say_kinds(&mut short);
-    let mut full = [7u64; 2560];
+    let mut full = [7u64; meaning::LIST_ROOM];
     let end = stop_of(&empty, &mut full);
     say(end, b'\n');
     let two = stop_of(&cut_off, &mut full);

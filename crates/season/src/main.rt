@@ -128,7 +128,7 @@ fn main() {
     let mut number = [0u16; 512];
     let mut label = [0u64; 512];
     let mut owner = [0u16; 8192];
-    let mut list = [0u64; 2560];
+    let mut list = [0u64; meaning::LIST_ROOM];
     let ran = stream::run_stream(
         &stream,
         &mut link,

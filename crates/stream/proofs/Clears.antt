@@ -1,12 +1,12 @@
 -- Clearing a table entry by entry. Assumes nothing.
 use mathlib.Core.Path.{_≡_, refl, sym, ap, _∙_}
 use mathlib.Core.List.{List}
-use Prim.Native.Nat.{ℕ, _+_, _≤_, _<_}
+use Prim.Native.Nat.{ℕ, _+_, _^_, _≤_, _<_}
 use native.Mathlib.Decide.{ℕ-discrete}
 use native.Mathlib.Omega.{arith}
 use lib.ListN.{length, getD, set, length-set, length-replicate, getD-replicate}
 use lib.Seq.{getD-set-same, getD-set-other, ext-getD}
-use Rattle.meaning.specs.Hall.{zeroes, top, fresh}
+use Rattle.meaning.specs.Hall.{ipv4, zeroes, empty, fresh}
 use Rattle.meaning.specs.Box.{stateOf}
 
 -- the first i entries are 0
@@ -36,8 +36,8 @@ cleared-all l m i c h =
 
 -- tables of zeros, with the end of the range for the second boundary, are those of the fresh state
 pub fresh-by : (link rule cut number : List ℕ) → link ≡ zeroes 64 → rule ≡ zeroes 256 → cut ≡ zeroes 513 → number ≡ zeroes 512
-    → stateOf (record { phase = 0; nodes = 0; links = 0; atoms = 1 }) link rule (set cut 1 top) number ≡ fresh
-unfolding fresh
+    → stateOf (record { phase = 0; nodes = 0; links = 0; atoms = 1 }) link rule (set cut 1 (2 ^ ipv4)) number ≡ fresh
+unfolding empty
 fresh-by link rule cut number a b c d = rw (a, b, c, d)
 
 -- a list of zeros by its length

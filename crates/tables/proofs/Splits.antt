@@ -6,7 +6,7 @@ use Prim.Native.Nat.{ℕ, _+_, _≤_, _<_}
 use native.Mathlib.Omega.{arith}
 use lib.ListN.{getD}
 use borrow.Author.Tests.{eq-eqb, ne-eqb}
-use Rattle.meaning.specs.Hall.{top, State}
+use Rattle.meaning.specs.Hall.{State}
 use Rattle.meaning.specs.Atoms.{placeOf, isCut, insertAt, splitCut, splitNumber, splitCount, withCut}
 use Rattle.meaning.specs.Tables.{Cuts}
 use Rattle.meaning.proofs.atoms.Splits.{within, cut-old}
@@ -29,7 +29,7 @@ pub split-kept : {cut number : List ℕ} {n b : ℕ} → isCut cut n b ≡ true 
 unfolding splitCut splitNumber splitCount
 split-kept e h = record { cuts = rw e; numbers = rw e; count = rw e; near = omega arith; few = h }
 
-pub kept-whole : (m : State) (b : ℕ) {cut label owner : List ℕ} {n : ℕ} → m .cut ≡ cut → m .atoms ≡ n → isCut cut n b ≡ true → Whole m label owner → Whole (withCut m b) label owner
+pub kept-whole : (m : State) (b : ℕ) {cut label owner : List ℕ} {n : ℕ} → m .atoms .cut ≡ cut → m .atoms .count ≡ n → isCut cut n b ≡ true → Whole m label owner → Whole (withCut m b) label owner
 kept-whole m b ec en e W = rw (cut-old m b (rw (ec, en) e)) W
 
 -- ---- b lies within place p, and there is room for an atom
@@ -40,7 +40,7 @@ pub record Inner (cut : List ℕ) (n b p : ℕ) : Type 0 where
   pub place : p < n
   pub room : n < 512
 
-pub inner : {cut : List ℕ} {n b p : ℕ} → Cuts top cut n → b ≤ top → (isCut cut n b ≡ false → n < 512) → p ≡ placeOf cut n b → (getD cut p 0 ≡ b → ⊥) → Inner cut n b p
+pub inner : {cut : List ℕ} {n b p : ℕ} → {t : ℕ} → Cuts t cut n → b ≤ t → (isCut cut n b ≡ false → n < 512) → p ≡ placeOf cut n b → (getD cut p 0 ≡ b → ⊥) → Inner cut n b p
 inner {cut} {n} {b} {p} w bt room at d =
     let e = no-cut cut n b p at d in
     record { at = at; missing = e; place = omega (arith, within w bt e); room = room e }
@@ -55,10 +55,10 @@ split-made I e d = record {
   few = omega (arith, I .room);
 }
 
-pub made-whole : (m : State) {cut number label label′ owner owner′ : List ℕ} {n b p : ℕ} → Inner cut n b p → m .cut ≡ cut → m .number ≡ number → m .atoms ≡ n → b ≤ top
+pub made-whole : (m : State) {cut number label label′ owner owner′ : List ℕ} {n b p : ℕ} → Inner cut n b p → m .atoms .cut ≡ cut → m .atoms .number ≡ number → m .atoms .count ≡ n → {t : ℕ} → Cuts t cut n → b ≤ t
     → Given label label′ owner owner′ (getD number p 0) n → Whole m label owner → Whole (withCut m b) label′ owner′
-made-whole m {cut} {number} {label} {label′} {owner} {owner′} {n} {b} {p} I ec ed en bt G W =
-    split-whole m b label label′ owner owner′ W bt (rw (ec, en) (I .missing)) (rw en (I .room)) (H .long) (H .row) (H .else) (H .bits)
+made-whole m {cut} {number} {label} {label′} {owner} {owner′} {n} {b} {p} I ec ed en C bt G W =
+    split-whole m b label label′ owner owner′ W (omega (arith, C .last, rw (ec, en) at (W .sound .cuts .last))) (rw (ec, en) (I .missing)) (rw en (I .room)) (H .long) (H .row) (H .else) (H .bits)
   where
-    H : Given label label′ owner owner′ (getD (m .number) (placeOf (m .cut) (m .atoms) b) 0) (m .atoms)
+    H : Given label label′ owner owner′ (getD (m .atoms .number) (placeOf (m .atoms .cut) (m .atoms .count) b) 0) (m .atoms .count)
     H = rw (ec, ed, en, ← (I .at)) G

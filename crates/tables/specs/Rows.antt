@@ -1,6 +1,6 @@
 -- What making a boundary does to the tables: a split, and an atom's owners and labels given to another. Assumes nothing: these are definitions.
 use mathlib.Core.Path.{_≡_}
-use mathlib.Core.Bool.{Bool, _||_, _&&_}
+use mathlib.Core.Bool.{_||_, _&&_}
 use mathlib.Core.List.{List}
 use Prim.Native.Nat.{ℕ, _+_, _≤_, _<_}
 use lib.Dec.{eqb}
@@ -13,7 +13,7 @@ use Rattle.lent.specs.Owners.{ownerIn, via}
 -- b is made a boundary
 pub record Split (cut number : List ℕ) (n b : ℕ) (cut′ number′ : List ℕ) (r : ℕ) : Type 0 where
   pub cuts : cut′ ≡ splitCut cut n b
-  pub numbers : number′ ≡ splitNumber cut number n b
+  pub numbers : number′ ≡ splitNumber cut number n n b
   pub count : r ≡ splitCount cut n b
   pub near : r ≤ n + 1
   pub few : r ≤ 512

@@ -8,8 +8,9 @@ use Prim.Native.Nat.{ℕ, zero, suc, _+_, _-_, _*_, _/_, _%_, _≤_, _<_}
 use lib.Dec.{eqb, ltb}
 use lib.ListN.{length, getD, set, take, drop}
 use Rattle.meaning.specs.Search.{pick}
-use Rattle.meaning.specs.Changes.{overwrite}
+use Rattle.meaning.specs.Changes.{entryWords, overwrite}
 use Rattle.meaning.specs.Rule.{linkOf, rank, covers}
+use Rattle.meaning.specs.Step.{listRoom}
 use Rattle.meaning.specs.Tables.{Numbers}
 use Rattle.lent.specs.Owners.{ownerIn, via, Agrees, Starts}
 use Rattle.tables.specs.Bits.{Moved}
@@ -34,27 +35,27 @@ entriesFrom g h cut number f (suc d) =
 -- the list has the entries of the changed places from f to below f + d, k of them
 pub record WroteEntries (g h : ℕ → ℕ) (cut number : List ℕ) (f d : ℕ) (list list′ : List ℕ) (k : ℕ) : Type 0 where
   pub words : list′ ≡ overwrite (entriesFrom g h cut number f d) list
-  pub count : length (entriesFrom g h cut number f d) ≡ 5 * k
+  pub count : length (entriesFrom g h cut number f d) ≡ entryWords * k
   pub few : k ≤ d
 
--- ---- the owners before and after
+-- ---- the owners before and after, over the width of the addresses
 
 -- the owner at place q
 abbrev pub ownerBy : List ℕ → List ℕ → ℕ → ℕ → ℕ
 ownerBy owner number v q = ownerIn owner (getD number q 0) v
 
 -- rule w as an owner, by the rules' words
-unfoldable pub ownerFor : List ℕ → ℕ → ℕ
-ownerFor rule w = pick (ltb w 256) (linkOf (getD rule w 0) * 512 + (w + 1)) 0
+unfoldable pub ownerFor : ℕ → List ℕ → ℕ → ℕ
+ownerFor width rule w = pick (ltb w 256) (linkOf width (getD rule w 0) * 512 + (w + 1)) 0
 
 -- of an owner and a new rule, mine, the one of higher rank
-unfoldable pub raised : List ℕ → ℕ → ℕ → ℕ → ℕ
-raised rule mine r e = pick (eqb e 0 || ltb (rank (getD rule (e % 512 - 1) 0)) r) mine e
+unfoldable pub raised : ℕ → List ℕ → ℕ → ℕ → ℕ → ℕ
+raised width rule mine r e = pick (eqb e 0 || ltb (rank width (getD rule (e % 512 - 1) 0)) r) mine e
 
 -- an owner, or where it is the rule that has gone the best for address a of the gathered ones
-unfoldable pub heirOf : List ℕ → List ℕ → ℕ → ℕ → ℕ → ℕ → ℕ
-heirOf rule among count gone a e =
-    pick (eqb e gone) (ownerFor rule (bestIn (λ k. covers (getD rule k 0) a) (λ k. rank (getD rule k 0)) among count)) e
+unfoldable pub heirOf : ℕ → List ℕ → List ℕ → ℕ → ℕ → ℕ → ℕ → ℕ
+heirOf width rule among count gone a e =
+    pick (eqb e gone) (ownerFor width rule (bestIn (λ k. covers width (getD rule k 0) a) (λ k. rank width (getD rule k 0)) among count)) e
 
 -- what one place of a sweep does: nothing where the owner stays, else the owner, the atom's links and the list change
 pub record Settled (cut number : List ℕ) (p v old new k : ℕ) (label label′ owner owner′ list list′ : List ℕ) (r : ℕ) : Type 0 where
@@ -62,7 +63,7 @@ pub record Settled (cut number : List ℕ) (p v old new k : ℕ) (label label′
   pub owners : (old ≡ new → ⊥) → owner′ ≡ set owner (16 * getD number p 0 + v) new
   pub labels : (old ≡ new → ⊥) → Moved label label′ (via old) (via new) (getD number p 0)
   pub words : (old ≡ new → ⊥)
-      → list′ ≡ take (5 * k) list ++ (getD number p 0 ∷ getD cut p 0 ∷ getD cut (p + 1) 0 ∷ via old ∷ via new ∷ []) ++ drop (5 * k + 5) list
+      → list′ ≡ take (entryWords * k) list ++ (getD number p 0 ∷ getD cut p 0 ∷ getD cut (p + 1) 0 ∷ via old ∷ via new ∷ []) ++ drop (entryWords * k + entryWords) list
   pub more : (old ≡ new → ⊥) → r ≡ k + 1
   pub size : length owner′ ≡ length owner
   pub room : length list′ ≡ length list
@@ -76,7 +77,7 @@ pub record Ready (number owner list : List ℕ) (n v f t : ℕ) : Type 0 where
   pub within : t ≤ n
   pub node : v < 16
   pub size : length owner ≡ 8192
-  pub room : 2560 ≤ length list
+  pub room : listRoom ≤ length list
 
 -- what a sweep leaves; at each place t on the way it is the sweep's invariant
 pub record SweptAll (cut number : List ℕ) (n v f t : ℕ) (g h : ℕ → ℕ) (label label′ owner owner′ list list′ : List ℕ) (r : ℕ) : Type 0 where

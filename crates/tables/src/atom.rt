@@ -2,9 +2,9 @@
 use meaning::Hall;
 ghost use mathlib.Core.Path.{_≡_};
 ghost use mathlib.Core.Bool.{false};
-ghost use Prim.Native.Nat.{ℕ, _+_, _*_, _≤_, _<_};
+ghost use Prim.Native.Nat.{ℕ, _+_, _*_, _^_, _≤_, _<_};
 ghost use lib.ListN.{length, getD};
-ghost use Rattle.meaning.specs.Hall.{top, State};
+ghost use Rattle.meaning.specs.Hall.{ipv4, State};
 ghost use Rattle.meaning.specs.Box.{AtomsHeld};
 ghost use Rattle.meaning.specs.Atoms.{placeOf, isCut, insertAt, withCut};
 ghost use Rattle.meaning.specs.Tables.{Cuts, Numbers};
@@ -18,7 +18,7 @@ pub struct Atom(pub u16);
 
 // The place of address a: the last whose lower end is at most a.
 pub fn place_of(cut: &[u64; 513], n: usize, a: u64) -> Place
-    requires { ⌜ Cuts top (now cut) n ⌝ }
+    requires { ⌜ Cuts (2 ^ ipv4) (now cut) n ⌝ }
     ensures { λ r. ⌜ (r .0 ≡ placeOf (now (cut .entry)) n a) × (r .0 ≤ n) ⌝ }
 {
     let mut low: usize = 0;
@@ -57,7 +57,7 @@ pub fn atom_of(h: Hall, cut: &[u64; 513], number: &[u16; 512], a: u32) -> Atom
 
 // Of n + 1 boundaries, those from place p on move up one place, and b goes in.
 fn insert_cut(cut: &mut [u64; 513], n: usize, p: Place, b: u64)
-    requires { ⌜ Cuts top (now cut) n ⌝ }
+    requires { ⌜ Cuts (2 ^ ipv4) (now cut) n ⌝ }
     requires { ⌜ (p .0 ≤ n) × (n < 512) ⌝ }
     ensures { λ r. ⌜ now (cut .exit) ≡ insertAt (p .0) b (now (cut .entry)) ⌝ }
 {
@@ -121,9 +121,9 @@ pub fn make_boundary(
     n: usize,
     b: u64,
 ) -> usize
-    requires { ⌜ (Cuts top (now cut) n) × (Numbers (now number) n) × (b ≤ top) × (isCut (now cut) n b ≡ false → n < 512) × (length (now owner) ≡ 8192) ⌝ }
+    requires { ⌜ (Cuts (2 ^ ipv4) (now cut) n) × (Numbers (now number) n) × (b ≤ 2 ^ ipv4) × (isCut (now cut) n b ≡ false → n < 512) × (length (now owner) ≡ 8192) ⌝ }
     ensures { λ r. ⌜ Split (now (cut .entry)) (now (number .entry)) n b (now (cut .exit)) (now (number .exit)) r ⌝ }
-    ensures { λ r. ⌜ ((m : State) → m .cut ≡ now (cut .entry) → m .number ≡ now (number .entry) → m .atoms ≡ n
+    ensures { λ r. ⌜ ((m : State) → m .atoms .cut ≡ now (cut .entry) → m .atoms .number ≡ now (number .entry) → m .atoms .count ≡ n
         → Whole m (now (label .entry)) (now (owner .entry)) → Whole (withCut m b) (now (label .exit)) (now (owner .exit))) ⌝ }
 {
     let p = place_of(cut, n, b);

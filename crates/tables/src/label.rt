@@ -1,6 +1,7 @@
 // Labels: 512 words, link l's at 8 l to 8 l + 7, and atom k the bit k % 64 of the word k / 64 of these.
 use crate::atom::Atom;
 ghost use Prim.Native.Nat.{_<_, _≤_};
+ghost use Rattle.meaning.specs.Changes.{noLink};
 ghost use Rattle.lent.specs.Owners.{Words};
 ghost use Rattle.tables.specs.Bits.{Put, TakenOff, Moved};
 
@@ -32,9 +33,9 @@ pub fn take_off(label: &mut [u64; 512], link: usize, atom: Atom)
     s[8 * link + k / 64] &= !(1u64 << (k % 64));
 }
 
-// Moves an atom from the link old to the link new, where each may be 64 for none.
+// Moves an atom from the link old to the link new, where each may be no link.
 pub fn move_atom(label: &mut [u64; 512], old: usize, new: usize, atom: Atom)
-    requires { ⌜ (old ≤ 64) × (new ≤ 64) × (atom .0 < 512) ⌝ }
+    requires { ⌜ (old ≤ noLink) × (new ≤ noLink) × (atom .0 < 512) ⌝ }
     ensures { λ r. ⌜ Moved (now (label .entry)) (now (label .exit)) old new (atom .0) ⌝ }
 {
     if old < 64 {

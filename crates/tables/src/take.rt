@@ -40,7 +40,7 @@ pub fn take_insert(
     ensures { λ s. ⌜ left (s .answer) (s .passed) (stateOf (s .hall) (now (link .entry)) (now (rule .exit)) (now (cut .exit)) (now (number .exit))) (now (label .exit)) (now (owner .exit)) (now (list .exit))
         ≡ leftFor (stateOf h (now (link .entry)) (now (rule .entry)) (now (cut .entry)) (now (number .entry))) (now (list .entry)) (Got (insertion r (x .link) (x .prefix) (x .length) (x .priority)) passed) ⌝ }
 {
-    if list.len() < 2560 {
+    if list.len() < meaning::LIST_ROOM {
         return refused(h, 0, 0);
     }
     if h.phase != 2 {
@@ -78,7 +78,7 @@ pub fn take_remove(
     ensures { λ s. ⌜ left (s .answer) (s .passed) (stateOf (s .hall) (now (link .entry)) (now (rule .exit)) (now (cut .entry)) (now (number .entry))) (now (label .exit)) (now (owner .exit)) (now (list .exit))
         ≡ leftFor (stateOf h (now (link .entry)) (now (rule .entry)) (now (cut .entry)) (now (number .entry))) (now (list .entry)) (Got (removal r) passed) ⌝ }
 {
-    if list.len() < 2560 {
+    if list.len() < meaning::LIST_ROOM {
         return refused(h, 0, 0);
     }
     if h.phase != 2 {

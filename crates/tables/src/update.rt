@@ -13,12 +13,13 @@ ghost use Prim.Native.Nat.{ℕ, _+_, _-_, _*_, _/_, _%_, _^_, _≤_, _<_};
 ghost use lib.Dec.{eqb, ltb};
 ghost use lib.ListN.{length, getD, set, take, drop};
 ghost use Rattle.meaning.specs.Search.{pick};
-ghost use Rattle.meaning.specs.Hall.{top, State};
+ghost use Rattle.meaning.specs.Hall.{ipv4, State};
 ghost use Rattle.meaning.specs.Rule.{ruleWord, live, linkOf, rank as rankOf, lower, upper};
 ghost use Rattle.meaning.specs.Atoms.{isCut};
-ghost use Rattle.meaning.specs.Step.{checked, refusal, leaves, nodeOf};
+ghost use Rattle.meaning.specs.Changes.{entryWords, noLink};
+ghost use Rattle.meaning.specs.Records.{insert, remove};
+ghost use Rattle.meaning.specs.Step.{listRoom, checked, ragged, updateRefusal, updated, nodeOf};
 ghost use Rattle.meaning.specs.Box.{stateOf};
-ghost use Rattle.meaning.specs.declared.Record.the-variants.{Insert as insertion, Remove as removal};
 ghost use Rattle.meaning.specs.Tables.{Cuts, Numbers};
 ghost use Rattle.lent.specs.Owners.{via, Numbered, Whole, Listed};
 ghost use Rattle.tables.specs.Bits.{Moved};
@@ -28,15 +29,15 @@ ghost use Rattle.tables.specs.Sweep.{ownerBy, ownerFor, raised, heirOf, 
 
 // Whether a prefix has a one bit below its length.
 fn is_ragged(prefix: u32, length: u8) -> bool
-    requires { ⌜ length ≤ 32 ⌝ }
-    ensures { λ r. ⌜ r ≡ Rattle.meaning.specs.Step.ragged prefix length ⌝ }
+    requires { ⌜ length ≤ ipv4 ⌝ }
+    ensures { λ r. ⌜ r ≡ ragged ipv4 prefix length ⌝ }
 {
     prefix as u64 % (1u64 << (32 - length)) != 0
 }
 
 // One where b is no boundary, else none.
 fn adds(cut: &[u64; 513], n: usize, b: u64) -> usize
-    requires { ⌜ Cuts top (now cut) n ⌝ }
+    requires { ⌜ Cuts (2 ^ ipv4) (now cut) n ⌝ }
     ensures { λ r. ⌜ (r ≡ pick (isCut (now (cut .entry)) n b) 0 1) × (r ≤ 1) ⌝ }
 {
     let p = crate::atom::place_of(cut, n, b).0;
@@ -55,8 +56,8 @@ pub fn check_insert(
     r: u16,
     x: Rule,
 ) -> Check
-    requires { ⌜ (Cuts top (now cut) (h .atoms)) × (h .links ≤ 64) ⌝ }
-    ensures { λ c. ⌜ ((number : List ℕ) → checked c ≡ refusal (stateOf h (now (link .entry)) (now (rule .entry)) (now (cut .entry)) number) (insertion r (x .link) (x .prefix) (x .length) (x .priority))) ⌝ }
+    requires { ⌜ (Cuts (2 ^ ipv4) (now cut) (h .atoms)) × (h .links ≤ 64) ⌝ }
+    ensures { λ c. ⌜ ((number : List ℕ) → checked c ≡ updateRefusal (stateOf h (now (link .entry)) (now (rule .entry)) (now (cut .entry)) number) (insert r (x .link) (x .prefix) (x .length) (x .priority))) ⌝ }
 {
     if 255 < r {
         return Check::Refused(8);
@@ -88,7 +89,7 @@ pub fn check_insert(
 
 // The checks of a remove, in their order.
 pub fn check_remove(rule: &[u64; 256], r: u16) -> Check
-    ensures { λ c. ⌜ ((m : State) → m .rule ≡ now (rule .entry) → checked c ≡ refusal m (removal r)) ⌝ }
+    ensures { λ c. ⌜ ((m : State) → m .rule ≡ now (rule .entry) → checked c ≡ updateRefusal m (remove r)) ⌝ }
 {
     if 255 < r {
         return Check::Refused(8);
@@ -103,8 +104,8 @@ pub fn check_remove(rule: &[u64; 256], r: u16) -> Check
 
 // Writes entry k of the list.
 fn write_entry(list: &mut [u64], k: usize, atom: Atom, low: u64, high: u64, old: u64, new: u64)
-    requires { ⌜ (5 * k + 5 ≤ length (now list)) × (k < 512) ⌝ }
-    ensures { λ r. ⌜ now (list .exit) ≡ take (5 * k) (now (list .entry)) ++ (atom .0 ∷ low ∷ high ∷ old ∷ new ∷ []) ++ drop (5 * k + 5) (now (list .entry)) ⌝ }
+    requires { ⌜ (entryWords * k + entryWords ≤ length (now list)) × (k < 512) ⌝ }
+    ensures { λ r. ⌜ now (list .exit) ≡ take (entryWords * k) (now (list .entry)) ++ (atom .0 ∷ low ∷ high ∷ old ∷ new ∷ []) ++ drop (entryWords * k + entryWords) (now (list .entry)) ⌝ }
 {
     let i = 5 * k;
     list[i] = atom.0 as u64;
@@ -114,12 +115,12 @@ fn write_entry(list: &mut [u64], k: usize, atom: Atom, low: u64, high: u64, old:
     list[i + 4] = new;
 }
 
-// The link that an owner names, and 64 for none.
+// The link that an owner names, or no link.
 fn via_of(owner: u16) -> u64
-    ensures { λ r. ⌜ (r ≡ via owner) × (r ≤ 64) ⌝ }
+    ensures { λ r. ⌜ (r ≡ via owner) × (r ≤ noLink) ⌝ }
 {
     if owner == 0 {
-        return 64;
+        return meaning::NO_LINK;
     }
     (owner / 512 % 64) as u64
 }
@@ -137,10 +138,10 @@ fn change_owner(
     new: u16,
     k: usize,
 )
-    requires { ⌜ (p .0 < 512) × (getD (now number) (p .0) 0 < 512) × (v < 16) × (5 * k + 5 ≤ length (now list)) × (k < 512) × (length (now owner) ≡ 8192) ⌝ }
+    requires { ⌜ (p .0 < 512) × (getD (now number) (p .0) 0 < 512) × (v < 16) × (entryWords * k + entryWords ≤ length (now list)) × (k < 512) × (length (now owner) ≡ 8192) ⌝ }
     ensures { λ r. ⌜ now (owner .exit) ≡ set (now (owner .entry)) (16 * getD (now (number .entry)) (p .0) 0 + v) new ⌝ }
     ensures { λ r. ⌜ Moved (now (label .entry)) (now (label .exit)) (via old) (via new) (getD (now (number .entry)) (p .0) 0) ⌝ }
-    ensures { λ r. ⌜ now (list .exit) ≡ take (5 * k) (now (list .entry)) ++ (getD (now (number .entry)) (p .0) 0 ∷ getD (now (cut .entry)) (p .0) 0 ∷ getD (now (cut .entry)) (p .0 + 1) 0 ∷ via old ∷ via new ∷ []) ++ drop (5 * k + 5) (now (list .entry)) ⌝ }
+    ensures { λ r. ⌜ now (list .exit) ≡ take (entryWords * k) (now (list .entry)) ++ (getD (now (number .entry)) (p .0) 0 ∷ getD (now (cut .entry)) (p .0) 0 ∷ getD (now (cut .entry)) (p .0 + 1) 0 ∷ via old ∷ via new ∷ []) ++ drop (entryWords * k + entryWords) (now (list .entry)) ⌝ }
 {
     let i = p.0;
     let atom = crate::atom::atom_at(number, p);
@@ -165,7 +166,7 @@ fn settle(
     new: u16,
     k: usize,
 ) -> usize
-    requires { ⌜ (p .0 < 512) × (getD (now number) (p .0) 0 < 512) × (v < 16) × (5 * k + 5 ≤ length (now list)) × (k < 512) × (length (now owner) ≡ 8192) ⌝ }
+    requires { ⌜ (p .0 < 512) × (getD (now number) (p .0) 0 < 512) × (v < 16) × (entryWords * k + entryWords ≤ length (now list)) × (k < 512) × (length (now owner) ≡ 8192) ⌝ }
     ensures { λ r. ⌜ Settled (now (cut .entry)) (now (number .entry)) (p .0) v old new k (now (label .entry)) (now (label .exit)) (now (owner .entry)) (now (owner .exit)) (now (list .entry)) (now (list .exit)) r ⌝ }
 {
     if old == new {
@@ -188,7 +189,7 @@ fn end_of(t: Place) -> usize
 // Of an owner and the new rule, mine, the one of higher rank.
 fn higher(rule: &[u64; 256], owner: u16, mine: u16, rank: u64) -> u16
     requires { ⌜ ((owner ≡ 0 → ⊥) → (0 < owner % 512) × (owner % 512 ≤ 256)) ⌝ }
-    ensures { λ r. ⌜ r ≡ raised (now (rule .entry)) mine rank owner ⌝ }
+    ensures { λ r. ⌜ r ≡ raised ipv4 (now (rule .entry)) mine rank owner ⌝ }
 {
     if owner == 0 {
         return mine;
@@ -216,7 +217,7 @@ fn take_over(
     rank: u64,
 ) -> usize
     requires { ⌜ (Ready (now number) (now owner) (now list) n v (f .0) (t .0)) × (Numbered (now owner)) ⌝ }
-    ensures { λ r. ⌜ SweptAll (now (cut .entry)) (now (number .entry)) n v (f .0) (t .0) (ownerBy (now (owner .entry)) (now (number .entry)) v) (λ q. raised (now (rule .entry)) mine rank (ownerBy (now (owner .entry)) (now (number .entry)) v q)) (now (label .entry)) (now (label .exit)) (now (owner .entry)) (now (owner .exit)) (now (list .entry)) (now (list .exit)) r ⌝ }
+    ensures { λ r. ⌜ SweptAll (now (cut .entry)) (now (number .entry)) n v (f .0) (t .0) (ownerBy (now (owner .entry)) (now (number .entry)) v) (λ q. raised ipv4 (now (rule .entry)) mine rank (ownerBy (now (owner .entry)) (now (number .entry)) v q)) (now (label .entry)) (now (label .exit)) (now (owner .entry)) (now (owner .exit)) (now (list .entry)) (now (list .exit)) r ⌝ }
 {
     let end = end_of(t);
     let mut p = f.0;
@@ -245,12 +246,12 @@ pub fn insert(
     x: Rule,
 ) -> Updated
     requires { ⌜ Whole (stateOf h (now link) (now rule) (now cut) (now number)) (now label) (now owner) ⌝ }
-    requires { ⌜ (h .phase ≡ 2) × (refusal (stateOf h (now link) (now rule) (now cut) (now number)) (insertion r (x .link) (x .prefix) (x .length) (x .priority)) ≡ none) × (2560 ≤ length (now list)) ⌝ }
+    requires { ⌜ (h .phase ≡ 2) × (updateRefusal (stateOf h (now link) (now rule) (now cut) (now number)) (insert r (x .link) (x .prefix) (x .length) (x .priority)) ≡ none) × (listRoom ≤ length (now list)) ⌝ }
     ensures { λ u. ⌜ stateOf (u .hall) (now (link .entry)) (now (rule .exit)) (now (cut .exit)) (now (number .exit))
-        ≡ leaves (stateOf h (now (link .entry)) (now (rule .entry)) (now (cut .entry)) (now (number .entry))) (insertion r (x .link) (x .prefix) (x .length) (x .priority)) ⌝ }
+        ≡ updated (stateOf h (now (link .entry)) (now (rule .entry)) (now (cut .entry)) (now (number .entry))) (insert r (x .link) (x .prefix) (x .length) (x .priority)) ⌝ }
     ensures { λ u. ⌜ Listed (stateOf h (now (link .entry)) (now (rule .entry)) (now (cut .entry)) (now (number .entry)))
-        (leaves (stateOf h (now (link .entry)) (now (rule .entry)) (now (cut .entry)) (now (number .entry))) (insertion r (x .link) (x .prefix) (x .length) (x .priority)))
-        (nodeOf (stateOf h (now (link .entry)) (now (rule .entry)) (now (cut .entry)) (now (number .entry))) (insertion r (x .link) (x .prefix) (x .length) (x .priority)))
+        (updated (stateOf h (now (link .entry)) (now (rule .entry)) (now (cut .entry)) (now (number .entry))) (insert r (x .link) (x .prefix) (x .length) (x .priority)))
+        (nodeOf (stateOf h (now (link .entry)) (now (rule .entry)) (now (cut .entry)) (now (number .entry))) (insert r (x .link) (x .prefix) (x .length) (x .priority)))
         (now (label .exit)) (now (owner .exit)) (now (list .entry)) (now (list .exit)) (u .listed) ⌝ }
 {
     let l = x.link as usize;
@@ -295,7 +296,7 @@ pub fn insert(
 // Rule w as an owner, 0 for 256.
 fn owner_for(rule: &[u64; 256], w: usize) -> u16
     requires { ⌜ w ≤ 256 ⌝ }
-    ensures { λ r. ⌜ r ≡ ownerFor (now (rule .entry)) w ⌝ }
+    ensures { λ r. ⌜ r ≡ ownerFor ipv4 (now (rule .entry)) w ⌝ }
 {
     if w == 256 {
         return 0;
@@ -307,7 +308,7 @@ fn owner_for(rule: &[u64; 256], w: usize) -> u16
 // An owner, or where it is the rule that has gone the best for address a of the gathered ones.
 fn heir(rule: &[u64; 256], among: &[u16; 256], count: usize, gone: u16, a: u64, owner: u16) -> u16
     requires { ⌜ (count ≤ 256) × ((j : ℕ) → j < count → getD (now among) j 0 < 256) ⌝ }
-    ensures { λ r. ⌜ r ≡ heirOf (now (rule .entry)) (now (among .entry)) count gone a owner ⌝ }
+    ensures { λ r. ⌜ r ≡ heirOf ipv4 (now (rule .entry)) (now (among .entry)) count gone a owner ⌝ }
 {
     if owner != gone {
         return owner;
@@ -333,7 +334,7 @@ fn hand_on(
     count: usize,
 ) -> usize
     requires { ⌜ (Ready (now number) (now owner) (now list) n v (f .0) (t .0)) × (count ≤ 256) × ((j : ℕ) → j < count → getD (now among) j 0 < 256) ⌝ }
-    ensures { λ r. ⌜ SweptAll (now (cut .entry)) (now (number .entry)) n v (f .0) (t .0) (ownerBy (now (owner .entry)) (now (number .entry)) v) (λ q. heirOf (now (rule .entry)) (now (among .entry)) count gone (getD (now (cut .entry)) q 0) (ownerBy (now (owner .entry)) (now (number .entry)) v q)) (now (label .entry)) (now (label .exit)) (now (owner .entry)) (now (owner .exit)) (now (list .entry)) (now (list .exit)) r ⌝ }
+    ensures { λ r. ⌜ SweptAll (now (cut .entry)) (now (number .entry)) n v (f .0) (t .0) (ownerBy (now (owner .entry)) (now (number .entry)) v) (λ q. heirOf ipv4 (now (rule .entry)) (now (among .entry)) count gone (getD (now (cut .entry)) q 0) (ownerBy (now (owner .entry)) (now (number .entry)) v q)) (now (label .entry)) (now (label .exit)) (now (owner .entry)) (now (owner .exit)) (now (list .entry)) (now (list .exit)) r ⌝ }
 {
     let end = end_of(t);
     let mut p = f.0;
@@ -361,12 +362,12 @@ pub fn remove(
     r: u16,
 ) -> Updated
     requires { ⌜ Whole (stateOf h (now link) (now rule) (now cut) (now number)) (now label) (now owner) ⌝ }
-    requires { ⌜ (h .phase ≡ 2) × (refusal (stateOf h (now link) (now rule) (now cut) (now number)) (removal r) ≡ none) × (2560 ≤ length (now list)) ⌝ }
+    requires { ⌜ (h .phase ≡ 2) × (updateRefusal (stateOf h (now link) (now rule) (now cut) (now number)) (remove r) ≡ none) × (listRoom ≤ length (now list)) ⌝ }
     ensures { λ u. ⌜ stateOf (u .hall) (now (link .entry)) (now (rule .exit)) (now (cut .entry)) (now (number .entry))
-        ≡ leaves (stateOf h (now (link .entry)) (now (rule .entry)) (now (cut .entry)) (now (number .entry))) (removal r) ⌝ }
+        ≡ updated (stateOf h (now (link .entry)) (now (rule .entry)) (now (cut .entry)) (now (number .entry))) (remove r) ⌝ }
     ensures { λ u. ⌜ Listed (stateOf h (now (link .entry)) (now (rule .entry)) (now (cut .entry)) (now (number .entry)))
-        (leaves (stateOf h (now (link .entry)) (now (rule .entry)) (now (cut .entry)) (now (number .entry))) (removal r))
-        (nodeOf (stateOf h (now (link .entry)) (now (rule .entry)) (now (cut .entry)) (now (number .entry))) (removal r))
+        (updated (stateOf h (now (link .entry)) (now (rule .entry)) (now (cut .entry)) (now (number .entry))) (remove r))
+        (nodeOf (stateOf h (now (link .entry)) (now (rule .entry)) (now (cut .entry)) (now (number .entry))) (remove r))
         (now (label .exit)) (now (owner .exit)) (now (list .entry)) (now (list .exit)) (u .listed) ⌝ }
 {
     let slot = r as usize;

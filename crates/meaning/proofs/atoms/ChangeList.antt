@@ -11,7 +11,7 @@ use lib.ListN.{length, getD, length-append, List·getD-append}
 use Rattle.meaning.specs.Search.{pick}
 use Rattle.meaning.specs.Hall.{State}
 use Rattle.meaning.specs.Changes.{linkOrNone, changedAt, changedPlaces, entryAt, entriesAt}
-use Rattle.meaning.proofs.rules.Covers.{winner-same, next-same}
+use Rattle.meaning.proofs.rules.Covers.{SameRules, winner-same, next-same}
 
 -- a link's word in an entry is its number, and none has the first number that no link has
 pub link-word : (l : ℕ) → linkOrNone (some l) ≡ l
@@ -143,12 +143,12 @@ module _ (m n : State) (v : ℕ) where
       ap listTo e ∙ list-more (k + d) ∙ rw (h (k + d) (omega arith) (omega arith)) (append-nil (listTo (k + d)) ∙ list-still k d (λ p a b. h p a (omega arith)))
 
 -- only the rules and the links of the state before count
-module _ (m o n : State) (rules : m .rule ≡ o .rule) (links : m .link ≡ o .link) (v : ℕ) where
+module _ (m o n : State) (alike : SameRules m o) (v : ℕ) where
   pub same-places : (k : ℕ) → changedPlaces m n v k ≡ changedPlaces o n v k
   unfolding changedAt
-  same-places = places-same m n o n v (λ q. rw (winner-same m o rules links v (getD (n .cut) q 0)))
+  same-places = places-same m n o n v (λ q. rw (winner-same alike v (getD (n .atoms .cut) q 0)))
 
   pub same-entries : (ps : List ℕ) → entriesAt m n v ps ≡ entriesAt o n v ps
   unfolding entriesAt entryAt
   same-entries [] = refl
-  same-entries (p ∷ ps) = rw (same-entries ps, next-same m o rules links (getD (n .cut) p 0) v)
+  same-entries (p ∷ ps) = rw (same-entries ps, next-same alike (getD (n .atoms .cut) p 0) v)

@@ -11,18 +11,17 @@ use native.Mathlib.Omega.{arith}
 use lib.Dec.{leb, ltb, eqb}
 use lib.ListN.{getD}
 use borrow.Author.Tests.{lt-ltb, le-ltb, le-leb, lt-leb}
-use Rattle.meaning.specs.declared.Record.{Record}
-use Rattle.meaning.specs.declared.Record.the-variants.{Hall as hall, Link as link, Close as close, Insert as insert, Remove as remove, Loop as loop, Fate as fate, Reach as reach, Tally as tally}
 use Rattle.meaning.specs.Search.{pick, orElse, anyBelow, lowestBelow, countBelow}
-use Rattle.meaning.specs.Hall.{top, State, sourceOf, endOf}
-use Rattle.meaning.specs.Rule.{live, linkOf, rank, lower, upper, covers}
-use Rattle.meaning.specs.Winner.{ruleAt, eligible, winner, linkFor, nextAt}
-use Rattle.meaning.specs.Tables.{Cuts, Boundary, Aligned}
+use Rattle.meaning.specs.Hall.{top, State, endOf}
+use Rattle.meaning.specs.Rule.{live, rank, lower, upper, covers}
+use Rattle.meaning.specs.Winner.{ruleAt, nodeFor, eligible, winner, linkFor, nextAt}
+use Rattle.meaning.specs.Tables.{Cuts, BoundaryOf, Aligned}
 use Rattle.meaning.specs.Walk.{goesRound, comesTo, fateIn}
 use Rattle.meaning.specs.Questions.{fateOf, loopsAt, loopFrom, reachesAt, reachFrom, isOut, isLost, isRound, asked, byAddress}
 use Rattle.meaning.specs.Working.{leastPlace, countPlace, byPlace}
 use Rattle.meaning.proofs.atoms.Cuts.{beside}
 use Rattle.meaning.proofs.rules.Ranks.{best-ext}
+use Rattle.meaning.specs.Records.{Question, loop, fate, reach, tally}
 
 -- P says the same of every address of a place as of the place's lower end
 abbrev pub Constant : List ℕ → ℕ → (ℕ → Bool) → Type 0
@@ -84,62 +83,57 @@ module _ {t : ℕ} {cut : List ℕ} {n : ℕ} (w : Cuts t cut n) (P : ℕ → Bo
   pub count-places : countBelow t P ≡ countPlace cut n P
   count-places = ap (λ (t : ℕ). countBelow t P) (sym (w .last)) ∙ count-to n (omega arith)
 
-module _ (m : State) (w : Cuts top (m .cut) (m .atoms)) (al : Aligned m) where
-  module _ (p a : ℕ) (pn : p < m .atoms) (from : getD (m .cut) p 0 ≤ a) (below : a < getD (m .cut) (suc p) 0) where
+module _ (m : State) (w : Cuts (top m) (m .atoms .cut) (m .atoms .count)) (al : Aligned m) where
+  module _ (p a : ℕ) (pn : p < m .atoms .count) (from : getD (m .atoms .cut) p 0 ≤ a) (below : a < getD (m .atoms .cut) (suc p) 0) where
     -- no boundary lies between the lower end of a's place and a
-    same-from : (x : ℕ) → Boundary (m .cut) (m .atoms) x → leb x a ≡ leb x (getD (m .cut) p 0)
+    same-from : (x : ℕ) → BoundaryOf m x → leb x a ≡ leb x (getD (m .atoms .cut) p 0)
     same-from x b =
-        ⊎-elim (λ (h : x ≤ getD (m .cut) p 0). le-leb x a (omega arith) ∙ sym (le-leb x (getD (m .cut) p 0) h))
-        (λ (h : a < x). lt-leb x a h ∙ sym (lt-leb x (getD (m .cut) p 0) (omega arith))) (beside w p a x pn below b)
+        ⊎-elim (λ (h : x ≤ getD (m .atoms .cut) p 0). le-leb x a (omega arith) ∙ sym (le-leb x (getD (m .atoms .cut) p 0) h))
+        (λ (h : a < x). lt-leb x a h ∙ sym (lt-leb x (getD (m .atoms .cut) p 0) (omega arith))) (beside w p a x pn below b)
 
-    same-to : (x : ℕ) → Boundary (m .cut) (m .atoms) x → ltb a x ≡ ltb (getD (m .cut) p 0) x
+    same-to : (x : ℕ) → BoundaryOf m x → ltb a x ≡ ltb (getD (m .atoms .cut) p 0) x
     same-to x b =
-        ⊎-elim (λ (h : x ≤ getD (m .cut) p 0). le-ltb a x (omega arith) ∙ sym (le-ltb (getD (m .cut) p 0) x h))
-        (λ (h : a < x). lt-ltb a x h ∙ sym (lt-ltb (getD (m .cut) p 0) x (omega arith))) (beside w p a x pn below b)
+        ⊎-elim (λ (h : x ≤ getD (m .atoms .cut) p 0). le-ltb a x (omega arith) ∙ sym (le-ltb (getD (m .atoms .cut) p 0) x h))
+        (λ (h : a < x). lt-ltb a x h ∙ sym (lt-ltb (getD (m .atoms .cut) p 0) x (omega arith))) (beside w p a x pn below b)
 
-    same-eligible : (v i : ℕ) → i < 256 → eligible m v a i ≡ eligible m v (getD (m .cut) p 0) i
+    same-eligible : (v i : ℕ) → i < 256 → eligible m v a i ≡ eligible m v (getD (m .atoms .cut) p 0) i
     unfolding eligible covers
     same-eligible v i l = go (live (ruleAt m i)) refl
       where
         go : (t : Bool) → live (ruleAt m i) ≡ t
-            → (t && (eqb (sourceOf m (linkOf (ruleAt m i))) v && (leb (lower (ruleAt m i)) a && ltb a (upper (ruleAt m i)))))
-            ≡ (t && (eqb (sourceOf m (linkOf (ruleAt m i))) v && (leb (lower (ruleAt m i)) (getD (m .cut) p 0) && ltb (getD (m .cut) p 0) (upper (ruleAt m i)))))
-        go true e = rw (same-from (lower (ruleAt m i)) (al i l e .0), same-to (upper (ruleAt m i)) (al i l e .1))
+            → (t && (eqb (nodeFor m (ruleAt m i)) v && (leb (lower (m .width) (ruleAt m i)) a && ltb a (upper (m .width) (ruleAt m i)))))
+            ≡ (t && (eqb (nodeFor m (ruleAt m i)) v && (leb (lower (m .width) (ruleAt m i)) (getD (m .atoms .cut) p 0) && ltb (getD (m .atoms .cut) p 0) (upper (m .width) (ruleAt m i)))))
+        go true e = rw (same-from (lower (m .width) (ruleAt m i)) (al i l e .0), same-to (upper (m .width) (ruleAt m i)) (al i l e .1))
         go false e = refl
 
-    pub same-winner : (v : ℕ) → winner m v a ≡ winner m v (getD (m .cut) p 0)
+    pub same-winner : (v : ℕ) → winner m v a ≡ winner m v (getD (m .atoms .cut) p 0)
     unfolding winner
-    same-winner v = best-ext _ _ (λ i. rank (ruleAt m i)) 256 (same-eligible v)
+    same-winner v = best-ext _ _ (λ i. rank (m .width) (ruleAt m i)) 256 (same-eligible v)
 
     -- so a packet goes the same ways
-    pub same-next : nextAt m a ≡ nextAt m (getD (m .cut) p 0)
+    pub same-next : nextAt m a ≡ nextAt m (getD (m .atoms .cut) p 0)
     unfolding nextAt
     same-next = fun-ext (λ v. ap (linkFor m) (same-winner v))
 
   -- anything that only asks where packets go is constant on each place
-  pub constant : (Q : (ℕ → Option ℕ) → Bool) → Constant (m .cut) (m .atoms) (λ a. Q (nextAt m a))
+  pub constant : (Q : (ℕ → Option ℕ) → Bool) → Constant (m .atoms .cut) (m .atoms .count) (λ a. Q (nextAt m a))
   constant Q p a pn from below = ap Q (same-next p a pn from below)
 
-  least-next : (Q : (ℕ → Option ℕ) → Bool) → lowestBelow top (λ a. Q (nextAt m a)) ≡ leastPlace (m .cut) (m .atoms) (λ a. Q (nextAt m a))
+  least-next : (Q : (ℕ → Option ℕ) → Bool) → lowestBelow (top m) (λ a. Q (nextAt m a)) ≡ leastPlace (m .atoms .cut) (m .atoms .count) (λ a. Q (nextAt m a))
   least-next Q = least-places w (λ a. Q (nextAt m a)) (constant Q)
 
-  count-next : (Q : (ℕ → Option ℕ) → Bool) → countBelow top (λ a. Q (nextAt m a)) ≡ countPlace (m .cut) (m .atoms) (λ a. Q (nextAt m a))
+  count-next : (Q : (ℕ → Option ℕ) → Bool) → countBelow (top m) (λ a. Q (nextAt m a)) ≡ countPlace (m .atoms .cut) (m .atoms .count) (λ a. Q (nextAt m a))
   count-next Q = count-places w (λ a. Q (nextAt m a)) (constant Q)
 
   -- THE LAW: over addresses and over places the answers are the same
-  pub by-place : (r : Record) → byAddress m r ≡ byPlace m r
+  pub by-place : (q : Question) → byAddress m q ≡ byPlace m q
   unfolding byAddress byPlace asked loopsAt reachesAt fateOf
-  by-place (hall n) = refl
-  by-place (link s c e) = refl
-  by-place close = refl
-  by-place (insert r l p n t) = refl
-  by-place (remove r) = refl
-  by-place loop = ap (loopFrom m) (least-next (λ f. anyBelow (m .nodes) (goesRound f (endOf m) (m .nodes))))
+  by-place loop = ap (loopFrom m) (least-next (λ f. anyBelow (m .plan .nodes) (goesRound f (endOf m) (m .plan .nodes))))
   by-place (fate v a) = refl
-  by-place (reach v w) = ap reachFrom (least-next (λ f. comesTo f (endOf m) (m .nodes) v w))
+  by-place (reach v w) = ap reachFrom (least-next (λ f. comesTo f (endOf m) (m .plan .nodes) v w))
   by-place (tally v) =
       rw (
-        count-next (λ f. isOut (fateIn f (endOf m) (m .nodes) 0 v)),
-        count-next (λ f. isLost (fateIn f (endOf m) (m .nodes) 0 v)),
-        count-next (λ f. isRound (fateIn f (endOf m) (m .nodes) 0 v)),
+        count-next (λ f. isOut (fateIn f (endOf m) (m .plan .nodes) 0 v)),
+        count-next (λ f. isLost (fateIn f (endOf m) (m .plan .nodes) 0 v)),
+        count-next (λ f. isRound (fateIn f (endOf m) (m .plan .nodes) 0 v)),
       )

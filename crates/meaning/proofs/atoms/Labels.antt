@@ -42,11 +42,11 @@ module _ (m : State) where
 -- ---- what `isOn` says
 
 -- the atom at place p is on link l exactly where the winner at l's source, for p's addresses, names l
-pub on-place : (m : State) → Numbers (m .number) (m .atoms) → (l p : ℕ) → p < m .atoms → isOn m l (getD (m .number) p 0) ≡ names (nextAt m (getD (m .cut) p 0) (sourceOf m l)) l
+pub on-place : (m : State) → Numbers (m .atoms .number) (m .atoms .count) → (l p : ℕ) → p < m .atoms .count → isOn m l (getD (m .atoms .number) p 0) ≡ names (nextAt m (getD (m .atoms .cut) p 0) (sourceOf m l)) l
 unfolding isOn
 on-place m N l p h =
-    any-one _ (m .atoms) p h (λ q g e. one-place N q p g h (eqb-true _ _ (and-both _ _ e .0)))
-    ∙ ap (λ (t : Bool). t && names (nextAt m (getD (m .cut) p 0) (sourceOf m l)) l) (eq-eqb (getD (m .number) p 0) (getD (m .number) p 0) refl)
+    any-one _ (m .atoms .count) p h (λ q g e. one-place N q p g h (eqb-true _ _ (and-both _ _ e .0)))
+    ∙ ap (λ (t : Bool). t && names (nextAt m (getD (m .atoms .cut) p 0) (sourceOf m l)) l) (eq-eqb (getD (m .atoms .number) p 0) (getD (m .atoms .number) p 0) refl)
 
 module _ (m : State) (idle : (i : ℕ) → live (ruleAt m i) ≡ false) where
   pub idle-winner : (v a : ℕ) → winner m v a ≡ 256
@@ -60,7 +60,7 @@ module _ (m : State) (idle : (i : ℕ) → live (ruleAt m i) ≡ false) where
   pub labels-idle : labelsOf m ≡ zeroes 512
   unfolding labelsOf isOn names
   labels-idle =
-      table-off 512 _ (λ i. word-off 64 _ (λ j. any-off _ (m .atoms) (λ p h. rw idle-next (and-false (eqb (getD (m .number) p 0) (64 * (i % 8) + j))))))
+      table-off 512 _ (λ i. word-off 64 _ (λ j. any-off _ (m .atoms .count) (λ p h. rw idle-next (and-false (eqb (getD (m .atoms .number) p 0) (64 * (i % 8) + j))))))
 
   pub owners-idle : ownersOf m ≡ zeroes 8192
   unfolding ownersOf ownerAt ownerWord
@@ -68,4 +68,4 @@ module _ (m : State) (idle : (i : ℕ) → live (ruleAt m i) ≡ false) where
     where
       go : (v : ℕ) (o : Option ℕ) → ownerAt m v o ≡ 0
       go v none = refl
-      go v (some p) = rw (idle-winner v (getD (m .cut) p 0))
+      go v (some p) = rw (idle-winner v (getD (m .atoms .cut) p 0))

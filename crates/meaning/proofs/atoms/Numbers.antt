@@ -44,22 +44,22 @@ module _ {number : List ℕ} {n : ℕ} (N : Numbers number n) (k : ℕ) (hk : k 
 
 -- ---- the place of an atom
 
-module _ (m : State) (N : Numbers (m .number) (m .atoms)) where
-  pub place-with : (p : ℕ) → p < m .atoms → placeWith m (getD (m .number) p 0) ≡ some p
+module _ (m : State) (N : Numbers (m .atoms .number) (m .atoms .count)) where
+  pub place-with : (p : ℕ) → p < m .atoms .count → placeWith m (getD (m .atoms .number) p 0) ≡ some p
   unfolding placeWith
   place-with p h =
-      lowest-first _ (m .atoms) p h (eq-eqb (getD (m .number) p 0) (getD (m .number) p 0) refl)
-      (λ i l. ne-eqb (getD (m .number) i 0) (getD (m .number) p 0) (N .apart i p l h))
+      lowest-first _ (m .atoms .count) p h (eq-eqb (getD (m .atoms .number) p 0) (getD (m .atoms .number) p 0) refl)
+      (λ i l. ne-eqb (getD (m .atoms .number) i 0) (getD (m .atoms .number) p 0) (N .apart i p l h))
 
-  pub place-without : (k : ℕ) → m .atoms ≤ k → placeWith m k ≡ none
+  pub place-without : (k : ℕ) → m .atoms .count ≤ k → placeWith m k ≡ none
   unfolding placeWith
-  place-without k h = lowest-off _ (m .atoms) (λ i l. ne-eqb (getD (m .number) i 0) k (λ e. omega (arith, N .small i l)))
+  place-without k h = lowest-off _ (m .atoms .count) (λ i l. ne-eqb (getD (m .atoms .number) i 0) k (λ e. omega (arith, N .small i l)))
 
   -- and it is on no link
-  pub on-without : (l k : ℕ) → m .atoms ≤ k → isOn m l k ≡ false
+  pub on-without : (l k : ℕ) → m .atoms .count ≤ k → isOn m l k ≡ false
   unfolding isOn
-  on-without l k h = any-off _ (m .atoms) (λ p g.
-      ap (λ (t : Bool). t && names (nextAt m (getD (m .cut) p 0) (sourceOf m l)) l) (ne-eqb (getD (m .number) p 0) k (λ e. omega (arith, N .small p g))))
+  on-without l k h = any-off _ (m .atoms .count) (λ p g.
+      ap (λ (t : Bool). t && names (nextAt m (getD (m .atoms .cut) p 0) (sourceOf m l)) l) (ne-eqb (getD (m .atoms .number) p 0) k (λ e. omega (arith, N .small p g))))
 
 -- a number is one place's
 pub one-place : {number : List ℕ} {n : ℕ} → Numbers number n → (p q : ℕ) → p < n → q < n → getD number p 0 ≡ getD number q 0 → p ≡ q

@@ -90,7 +90,7 @@ split-cuts top cut n b w bt room = go (isCut cut n b) refl
     go true e = w
     go false e = made-cuts top cut n b (placeOf cut n b) w (within w bt e) (starts w bt e) (ends w bt e) (room e)
 
--- the number n goes in at place p + 1
+-- the next number, n, goes in at place p + 1
 module _ (number : List ℕ) (n p : ℕ) (m : Numbers number n) (pn : p < n) (room : n < 512) where
   num-below : (i : ℕ) → i < p + 1 → getD (insertAt (p + 1) n number) i 0 ≡ getD number i 0
   num-below i h = insert-below (p + 1) n i number h
@@ -126,7 +126,7 @@ module _ (number : List ℕ) (n p : ℕ) (m : Numbers number n) (pn : p < n) (ro
   }
 
 pub split-numbers : (top : ℕ) (cut number : List ℕ) (n b : ℕ) → Cuts top cut n → b ≤ top → (isCut cut n b ≡ false → n < 512) → Numbers number n
-    → Numbers (splitNumber cut number n b) (splitCount cut n b)
+    → Numbers (splitNumber cut number n n b) (splitCount cut n b)
 unfolding splitNumber splitCount
 split-numbers top cut number n b w bt room m = go (isCut cut n b) refl
   where
@@ -192,6 +192,6 @@ module _ (top : ℕ) (cut : List ℕ) (n b : ℕ) (w : Cuts top cut n) (bt : b �
       go false = refl
 
 -- where b is a boundary already, nothing changes
-pub cut-old : (m : State) (b : ℕ) → isCut (m .cut) (m .atoms) b ≡ true → withCut m b ≡ m
+pub cut-old : (m : State) (b : ℕ) → isCut (m .atoms .cut) (m .atoms .count) b ≡ true → withCut m b ≡ m
 unfolding withCut splitCut splitNumber splitCount
 cut-old m b e = rw e

@@ -1,10 +1,10 @@
 -- A step of two states side by side, and what an accepted record was and stored. Assumes nothing.
 use mathlib.Core.Path.{_≡_, refl, sym, ap, _∙_}
 use mathlib.Core.Logic.{_↔_, _⊎_, inl, inr}
-use mathlib.Core.Bool.{Bool, true, false, true≢false}
+use mathlib.Core.Bool.{Bool, true, false}
 use mathlib.Core.Option.{Option, none, some}
 use mathlib.Core.List.{List, [], _∷_}
-use Prim.Native.Nat.{ℕ, _*_, _≤_, _<_}
+use Prim.Native.Nat.{ℕ, _≤_, _<_}
 use native.Mathlib.Omega.{arith}
 use lib.Dec.{ltb}
 use lib.ListN.{length, set}
@@ -14,36 +14,28 @@ use Rattle.meaning.specs.declared.Answer.the-variants.{End, Refused}
 use Rattle.meaning.specs.declared.Read.{Read}
 use Rattle.meaning.specs.declared.Read.the-variants.{End as Nothing}
 use Rattle.meaning.specs.declared.Record.{Record}
-use Rattle.meaning.specs.declared.Record.the-variants.{Hall as hall, Link as link, Close as close, Insert as insert, Remove as remove, Loop as loop, Fate as fate, Reach as reach, Tally as tally}
 use Rattle.meaning.specs.Search.{pick}
 use Rattle.meaning.specs.Hall.{State}
 use Rattle.meaning.specs.Rule.{ruleWord}
 use Rattle.meaning.specs.Atoms.{withCut}
 use Rattle.meaning.specs.Questions.{byAddress}
-use Rattle.meaning.specs.Records.{recordOf, readOf, phaseOf, isQuestion}
-use Rattle.meaning.specs.Step.{Done, refusal, withRule, inserted, leaves, turnedBy, only, answers, accepted, taken, stepFor, stepWith, stepOf}
+use Rattle.meaning.specs.Records.{recordOf, readOf, Update, insert, remove, Question, Sort, update, question, sortOf, phaseOf}
+use Rattle.meaning.specs.Step.{listRoom, Done, updateRefusal, withRule, inserted, updated, nodeOf, changes, questionRefusal, refusal, turnedBy, leaves, writes, only, answers, accepted, taken, stepFor, stepWith, stepOf}
+use Rattle.meaning.specs.declared.Record.the-variants.{Close}
+use Rattle.meaning.specs.Changes.{entriesAt}
+use Rattle.meaning.specs.Run.{Came}
 use Rattle.meaning.proofs.base.Order.{clash, le-or-lt}
 use Rattle.meaning.proofs.records.Checks.{when-none}
 use Rattle.meaning.proofs.records.Steps.{Stepped, short, ended, unread, turned, took, stepped}
 use Rattle.meaning.proofs.records.Begins.{Begins, nothing, unread as without, whole, begins}
 use Rattle.meaning.proofs.document.Runs.{at-end, stays}
 use Rattle.meaning.proofs.demands.Demands.{refusedBy, Asks, ruleOf, then, Accepts}
-use Rattle.meaning.proofs.records.Kinds.{by-question}
+use Rattle.meaning.proofs.records.Fields.{FitsUpdate, Fits, fits}
+use Rattle.meaning.proofs.sound.Sound.{width-is}
 
--- ---- kinds of records
-
--- what holds of the inserts and the remove of rule i holds of every record that names rule i
-pub by-update : (P : Record → Type 0) (i : ℕ) → ((l p n t : ℕ) → P (insert i l p n t)) → P (remove i) → (r : Record) → ruleOf r ≡ some i → P r
-unfolding ruleOf
-by-update P i f g (hall n) e = clash cc
-by-update P i f g (link s c d) e = clash cc
-by-update P i f g close e = clash cc
-by-update P i f g (insert r l p n t) e = let q : r ≡ i = cc in rw q (f l p n t)
-by-update P i f g (remove r) e = let q : r ≡ i = cc in rw q g
-by-update P i f g loop e = clash cc
-by-update P i f g (fate v a) e = clash cc
-by-update P i f g (reach v w) e = clash cc
-by-update P i f g (tally v) e = clash cc
+-- the record that the bytes s begin with, by its sort
+abbrev pub sorted : List ℕ → Sort
+sorted s = sortOf (recordOf s)
 
 -- ---- two steps side by side
 
@@ -58,9 +50,9 @@ same-test i j k f = go (le-or-lt k i) (le-or-lt k j)
     go (inr h) (inr g) = lt-ltb i k h ∙ sym (lt-ltb j k g)
 
 -- of the room that is lent a step sees only whether it is enough
-pub any-room : (m : State) (room room′ : ℕ) (s : List ℕ) → ((room < 5 * 512) ↔ (room′ < 5 * 512)) → stepOf m room s ≡ stepOf m room′ s
+pub any-room : (m : State) (room room′ : ℕ) (s : List ℕ) → ((room < listRoom) ↔ (room′ < listRoom)) → stepOf m room s ≡ stepOf m room′ s
 unfolding stepOf stepWith
-any-room m room room′ s f = rw (same-test room room′ 2560 f)
+any-room m room room′ s f = rw (same-test room room′ listRoom f)
 
 -- the answers of a step that leaves all as it was before a record is taken
 pub data Unmoved : Answer → Type 0 where
@@ -69,12 +61,12 @@ pub data Unmoved : Answer → Type 0 where
 
 -- where a record is turned away alike, what holds of both refusals and of both acceptances holds of both steps
 module _ (R : Done → Done → Type 0) (m n : State) (room : ℕ) (s : List ℕ) where
-  pub both-step : ((k : ℕ) (a : Answer) → Unmoved a → R (only m k a) (only n k a)) → turnedBy m (recordOf s) ≡ turnedBy n (recordOf s)
-      → ((k : ℕ) → turnedBy n (recordOf s) ≡ none → R (accepted (byAddress m) m k (recordOf s)) (accepted (byAddress n) n k (recordOf s))) → R (stepOf m room s) (stepOf n room s)
+  pub both-step : ((k : ℕ) (a : Answer) → Unmoved a → R (only m k a) (only n k a)) → turnedBy m (sorted s) ≡ turnedBy n (sorted s)
+      → ((k : ℕ) → turnedBy n (sorted s) ≡ none → R (accepted (byAddress m) m k (sorted s)) (accepted (byAddress n) n k (sorted s))) → R (stepOf m room s) (stepOf n room s)
   unfolding stepOf stepWith stepFor taken
-  both-step f e g = go (ltb room 2560) (readOf s) (begins s)
+  both-step f e g = go (ltb room listRoom) (readOf s) (begins s)
     where
-      last : (k : ℕ) (o : Option ℕ) → turnedBy n (recordOf s) ≡ o → R (taken (byAddress m) m k (recordOf s) o) (taken (byAddress n) n k (recordOf s) o)
+      last : (k : ℕ) (o : Option ℕ) → turnedBy n (sorted s) ≡ o → R (taken (byAddress m) m k (sorted s) o) (taken (byAddress n) n k (sorted s) o)
       last k (some j) q = f k (Refused j) (refused j)
       last k none q = g k q
 
@@ -96,11 +88,11 @@ reads-nothing s e = go (readOf s) (begins s) e
     go x (whole h) e = clash cc
 
 -- THE LAW: the answer is "end" exactly when the list is long enough and no byte is left
-pub end-is : (m : State) (room : ℕ) (s : List ℕ) → (stepOf m room s .answer ≡ End) ↔ ((5 * 512 ≤ room) × (length s ≡ 0))
+pub end-is : (m : State) (room : ℕ) (s : List ℕ) → (stepOf m room s .answer ≡ End) ↔ ((listRoom ≤ room) × (length s ≡ 0))
 unfolding stepOf stepWith stepFor readOf only accepted
-end-is m room s = (λ e. go _ (stepped _ m room s) refl e, λ h. rw (le-ltb room 2560 (h .0), eq-eqb (length s) 0 (h .1)))
+end-is m room s = (λ e. go _ (stepped _ m room s) refl e, λ h. rw (le-ltb room listRoom (h .0), eq-eqb (length s) 0 (h .1)))
   where
-    go : (d : Done) → Stepped (byAddress m) m room s d → stepWith (byAddress m) m room (readOf s) ≡ d → d .answer ≡ End → (5 * 512 ≤ room) × (length s ≡ 0)
+    go : (d : Done) → Stepped (byAddress m) m room s d → stepWith (byAddress m) m room (readOf s) ≡ d → d .answer ≡ End → (listRoom ≤ room) × (length s ≡ 0)
     go d (short h) q e = clash cc
     go d (ended h r) q e = (h, reads-nothing s r)
     go d (unread k h r o) q e = clash cc
@@ -112,9 +104,9 @@ end-is m room s = (λ e. go _ (stepped _ m room s) refl e, λ h. rw (le-ltb room
 -- it passed every check, and the step d is that of the record
 pub record Took (m : State) (s : List ℕ) (d : Done) : Type 0 where
   pub bytes : ℕ
-  pub phase : m .phase ≡ phaseOf (recordOf s)
-  pub passes : refusal m (recordOf s) ≡ none
-  pub is : d ≡ accepted (byAddress m) m bytes (recordOf s)
+  pub phase : m .plan .phase ≡ phaseOf (sorted s)
+  pub passes : refusal m (sorted s) ≡ none
+  pub is : d ≡ accepted (byAddress m) m bytes (sorted s)
 
 module _ (m : State) (room : ℕ) (s : List ℕ) where
   -- what is neither refused nor "end" is accepted
@@ -126,72 +118,82 @@ module _ (m : State) (room : ℕ) (s : List ℕ) where
       unmoved k a no-byte e f = absurd (f refl)
       unmoved k a (refused j) e f = clash cc
 
-      passed : (k : ℕ) → turnedBy m (recordOf s) ≡ none → refusedBy (accepted (byAddress m) m k (recordOf s) .answer) ≡ none
-          → (accepted (byAddress m) m k (recordOf s) .answer ≡ End → ⊥) → Took m s (accepted (byAddress m) m k (recordOf s))
+      passed : (k : ℕ) → turnedBy m (sorted s) ≡ none → refusedBy (accepted (byAddress m) m k (sorted s) .answer) ≡ none
+          → (accepted (byAddress m) m k (sorted s) .answer ≡ End → ⊥) → Took m s (accepted (byAddress m) m k (sorted s))
       passed k q e f = let y = when-none _ _ _ q in record { bytes = k; phase = eqb-true _ _ (not-false _ (y .0)); passes = y .1; is = refl }
 
 -- ---- a question that is not refused
 
-empty-close : (s : List ℕ) → length s ≡ 0 → recordOf s ≡ close
+empty-close : (s : List ℕ) → length s ≡ 0 → recordOf s ≡ Close
 unfolding recordOf
 empty-close [] e = refl
 empty-close (x ∷ s) e = absurd (omega arith)
 
-module _ (m : State) (room : ℕ) (s : List ℕ) (r : Record) (A : Asks m room s r) (q : isQuestion r ≡ true) where
-  took-question : Took m s (stepOf m room s)
-  took-question = accepts m room s (A .taken) (λ e. true≢false (sym q ∙ ap isQuestion (sym (A .record-is) ∙ empty-close s (end-is m room s .0 e .1)) ∙ (unfold isQuestion in refl)))
+module _ (m : State) (room : ℕ) (s : List ℕ) (r : Record) (A : Asks m room s r) (q : Question) (asks : sortOf r ≡ question q) where
+  sorted-is : sorted s ≡ question q
+  sorted-is = ap sortOf (A .record-is) ∙ asks
 
-  pub asked-passes : refusal m r ≡ none
-  asked-passes = rw (A .record-is) at (took-question .passes)
+  took-question : Took m s (stepOf m room s)
+  unfolding sortOf
+  took-question = accepts m room s (A .taken) (λ e. clash (cc (sorted-is, ap sortOf (empty-close s (end-is m room s .0 e .1)))))
+
+  pub asked-passes : questionRefusal (m .plan) q ≡ none
+  unfolding refusal
+  asked-passes = rw sorted-is at (took-question .passes)
 
   -- THE LAW: it is answered by what the definitions of the questions say
-  pub asked-is : stepOf m room s .answer ≡ byAddress m r
+  pub asked-is : stepOf m room s .answer ≡ byAddress m q
   unfolding accepted answers
-  asked-is =
-      ap (λ (d : Done). d .answer) (took-question .is) ∙ ap (answers (byAddress m) m) (A .record-is)
-      ∙ by-question (λ r. answers (byAddress m) m r ≡ byAddress m r) refl (λ v a. refl) (λ v w. refl) (λ v. refl) r q
+  asked-is = ap (λ (d : Done). d .answer) (took-question .is) ∙ ap (answers (byAddress m) m) sorted-is
 
--- ---- an accepted insert or remove
+-- ---- an accepted update
 
 module _ (m : State) (room : ℕ) (s : List ℕ) (i : ℕ) (A : Accepts m room s i) where
-  pub took-it : Took m s (stepOf m room s)
+  took-it : Took m s (stepOf m room s)
   took-it = accepts m room s (ap refusedBy (A .ok) ∙ (unfold refusedBy in refl)) (λ e. clash (cc (A .ok)))
 
-  pub left-is : then m room s ≡ leaves m (recordOf s)
-  unfolding accepted
-  left-is = ap (λ (d : Done). d .left) (took-it .is)
+  pub closed-hall : m .plan .phase ≡ 2
+  unfolding phaseOf
+  closed-hall = took-it .phase ∙ ap phaseOf (A .record-is)
 
--- ---- what such a record stores
+  pub passes : updateRefusal m (A .sent) ≡ none
+  unfolding refusal
+  passes = rw (A .record-is) at (took-it .passes)
 
--- the word that rule i has then
-unfoldable pub storedBy : Record → ℕ
-storedBy (hall n) = 0
-storedBy (link s c e) = 0
-storedBy close = 0
-storedBy (insert r l p n t) = ruleWord l p n t
-storedBy (remove r) = 0
-storedBy loop = 0
-storedBy (fate v a) = 0
-storedBy (reach v w) = 0
-storedBy (tally v) = 0
+  pub fit : Came m → FitsUpdate (m .width) (A .sent)
+  unfolding Fits
+  fit c = rw (width-is c) (rw (A .record-is) at (fits s))
 
--- it stores that word and keeps the hall
+  pub left-is : then m room s ≡ updated m (A .sent)
+  unfolding accepted leaves
+  left-is = ap (λ (d : Done). d .left) (took-it .is) ∙ ap (leaves m) (A .record-is)
+
+  pub written-is : stepOf m room s .written ≡ entriesAt m (updated m (A .sent)) (nodeOf m (A .sent)) (changes m (A .sent))
+  unfolding accepted writes
+  written-is = ap (λ (d : Done). d .written) (took-it .is) ∙ ap (writes m) (A .record-is)
+
+-- ---- what it stores
+
+-- the word that its rule has then, over addresses of a width
+unfoldable pub storedBy : ℕ → Update → ℕ
+storedBy width (insert r l p n t) = ruleWord width l p n t
+storedBy width (remove r) = 0
+
+-- it stores that word and keeps the rest
 pub record Stores (m n : State) (i w : ℕ) : Type 0 where
+  pub width : n .width ≡ m .width
+  pub plan : n .plan ≡ m .plan
   pub rule : n .rule ≡ set (m .rule) i w
-  pub phase : n .phase ≡ m .phase
-  pub nodes : n .nodes ≡ m .nodes
-  pub links : n .links ≡ m .links
-  pub link : n .link ≡ m .link
 
-stores-one : (m : State) (i : ℕ) (r : Record) → ruleOf r ≡ some i → Stores m (leaves m r) i (storedBy r)
-unfolding storedBy leaves inserted withRule withCut
-stores-one m i =
-    by-update (λ r. Stores m (leaves m r) i (storedBy r)) i (λ l p n t. record { rule = refl; phase = refl; nodes = refl; links = refl; link = refl })
-    (record { rule = refl; phase = refl; nodes = refl; links = refl; link = refl })
+stores-one : (m : State) (u : Update) → Stores m (updated m u) (ruleOf u) (storedBy (m .width) u)
+unfolding ruleOf storedBy updated inserted withRule withCut
+stores-one m (insert r l p n t) = record { width = refl; plan = refl; rule = refl }
+stores-one m (remove r) = record { width = refl; plan = refl; rule = refl }
 
 -- THE LAW
-pub stores : (m : State) (room : ℕ) (s : List ℕ) (i : ℕ) → Accepts m room s i → Stores m (then m room s) i (storedBy (recordOf s))
-stores m room s i A = rw (left-is m room s i A) (stores-one m i (recordOf s) (A .names))
+pub stores : (m : State) (room : ℕ) (s : List ℕ) (i : ℕ) (A : Accepts m room s i) → Stores m (then m room s) i (storedBy (m .width) (A .sent))
+stores m room s i A = rw (left-is m room s i A, ← A .names) (stores-one m (A .sent))
 
-pub closed-hall : (m : State) (room : ℕ) (s : List ℕ) (i : ℕ) → Accepts m room s i → m .phase ≡ 2
-closed-hall m room s i A = took-it m room s i A .phase ∙ by-update (λ r. phaseOf r ≡ 2) i (λ l p n t. unfold phaseOf in refl) (unfold phaseOf in refl) (recordOf s) (A .names)
+-- the bytes say which update it is
+pub same-sent : {m n : State} {room room′ : ℕ} {s : List ℕ} {i : ℕ} (A : Accepts m room s i) (B : Accepts n room′ s i) → A .sent ≡ B .sent
+same-sent A B = let e : update (A .sent) ≡ update (B .sent) = sym (A .record-is) ∙ B .record-is in cc

@@ -5,20 +5,20 @@ use mathlib.Core.Logic.{_↔_, _⊎_, inl, inr, ⊎-elim}
 use mathlib.Core.List.{List}
 use Prim.Native.Nat.{ℕ, zero, suc, _≤_, _<_}
 use native.Mathlib.Omega.{arith}
-use lib.ListN.{getD, set}
+use lib.ListN.{getD}
 use lib.Seq.{ext-getD, set-comm}
-use Rattle.meaning.specs.Hall.{top, State}
-use Rattle.meaning.specs.Records.{recordOf}
+use Rattle.meaning.specs.Hall.{top, Plan, State}
 use Rattle.meaning.specs.Step.{stepOf}
 use Rattle.meaning.specs.Run.{Came, more}
-use Rattle.meaning.specs.Tables.{Cuts, Boundary}
+use Rattle.meaning.specs.Tables.{Cuts, Boundary, BoundaryOf}
 use Rattle.meaning.proofs.base.Order.{le-or-lt}
 use Rattle.meaning.proofs.atoms.Cuts.{cut-le}
+use Rattle.meaning.proofs.sound.Sound.{width-is, top-is}
 use Rattle.meaning.proofs.sound.Kept.{sound}
 use Rattle.meaning.proofs.document.Boundaries.{EndsAt, Ended, boundaries}
 use Rattle.meaning.proofs.demands.Demands.{Twins, then, Accepts, Call, since, SameStep, EitherOrder, either}
 use Rattle.meaning.proofs.demands.Twins.{twins}
-use Rattle.meaning.proofs.demands.Accepted.{storedBy, Stores, stores, closed-hall}
+use Rattle.meaning.proofs.demands.Accepted.{storedBy, Stores, stores, closed-hall, same-sent}
 use Rattle.meaning.proofs.demands.Renumbered.{Alike, alike-since, alike-later}
 
 -- ---- the boundaries determine the cutting
@@ -69,39 +69,55 @@ module _ (m : State) (first second first′ second′ : ℕ) (s t : List ℕ) (i
   came-y : Came y
   came-y = more second′ s (more first′ t c)
 
+  -- each update stores the same word, whichever comes first
+  swapped-first : storedBy (then m first′ t .width) (two′ .sent) ≡ storedBy (m .width) (one .sent)
+  swapped-first = rw (same-sent two′ one, stores m first′ t j one′ .width)
+
+  swapped-second : storedBy (then m first s .width) (two .sent) ≡ storedBy (m .width) (one′ .sent)
+  swapped-second = rw (same-sent two one′, stores m first s i one .width)
+
   swapped-rules : x .rule ≡ y .rule
   swapped-rules =
-      stores (then m first s) second t j two .rule
-      ∙ ap (λ (rs : List ℕ). set rs j (storedBy (recordOf t))) (stores m first s i one .rule)
-      ∙ set-comm (m .rule) i j (storedBy (recordOf s)) (storedBy (recordOf t)) apart
-      ∙ sym (ap (λ (rs : List ℕ). set rs i (storedBy (recordOf s))) (stores m first′ t j one′ .rule))
-      ∙ sym (stores (then m first′ t) second′ s i two′ .rule)
+      rw (stores (then m first s) second t j two .rule, stores (then m first′ t) second′ s i two′ .rule, swapped-first, swapped-second, stores m first s i one .rule, stores m first′ t j one′ .rule)
+      (set-comm (m .rule) i j (storedBy (m .width) (one .sent)) (storedBy (m .width) (one′ .sent)) apart)
 
   -- an end that one step makes a boundary, the other does too
-  moved : (o p : State) (room room′ : ℕ) (u : List ℕ) (k : ℕ) → Accepts p room′ u k → (b : ℕ) → EndsAt o room u b → EndsAt p room′ u b
-  moved o p room room′ u k A b e = record { taken = e .taken; bytes = e .bytes; count = A .count; reads = e .reads; ok = A .ok; end = e .end }
+  moved : (o p : State) (room room′ : ℕ) (u : List ℕ) (k : ℕ) → Came o → Came p → Accepts p room′ u k → (b : ℕ) → EndsAt o room u b → EndsAt p room′ u b
+  moved o p room room′ u k x y A b e = record {
+    taken = e .taken;
+    bytes = e .bytes;
+    rule = e .rule;
+    count = A .count;
+    reads = e .reads;
+    updates = e .updates;
+    ok = A .ok;
+    end = rw (width-is y, ← width-is x) (e .end);
+  }
 
-  same-boundary : (b : ℕ) → Boundary (x .cut) (x .atoms) b ↔ Boundary (y .cut) (y .atoms) b
+  same-top : top x ≡ top y
+  same-top = top-is came-x ∙ sym (top-is came-y)
+
+  same-boundary : (b : ℕ) → BoundaryOf x b ↔ BoundaryOf y b
   unfolding Ended came-x came-y
   same-boundary b = (λ h. boundaries y came-y b .1 (there (boundaries x came-x b .0 h)), λ h. boundaries x came-x b .1 (back (boundaries y came-y b .0 h)))
     where
-      there : ((b ≡ 0) ⊎ (b ≡ top)) ⊎ ((Ended c b ⊎ EndsAt m first s b) ⊎ EndsAt (then m first s) second t b)
-          → ((b ≡ 0) ⊎ (b ≡ top)) ⊎ ((Ended c b ⊎ EndsAt m first′ t b) ⊎ EndsAt (then m first′ t) second′ s b)
-      there (inl h) = inl h
+      there : ((b ≡ 0) ⊎ (b ≡ top x)) ⊎ ((Ended c b ⊎ EndsAt m first s b) ⊎ EndsAt (then m first s) second t b)
+          → ((b ≡ 0) ⊎ (b ≡ top y)) ⊎ ((Ended c b ⊎ EndsAt m first′ t b) ⊎ EndsAt (then m first′ t) second′ s b)
+      there (inl h) = inl (rw (← same-top) h)
       there (inr (inl (inl h))) = inr (inl (inl h))
-      there (inr (inl (inr h))) = inr (inr (moved _ _ first second′ s i two′ b h))
-      there (inr (inr h)) = inr (inl (inr (moved _ _ second first′ t j one′ b h)))
+      there (inr (inl (inr h))) = inr (inr (moved _ _ first second′ s i c (more first′ t c) two′ b h))
+      there (inr (inr h)) = inr (inl (inr (moved _ _ second first′ t j (more first s c) c one′ b h)))
 
-      back : ((b ≡ 0) ⊎ (b ≡ top)) ⊎ ((Ended c b ⊎ EndsAt m first′ t b) ⊎ EndsAt (then m first′ t) second′ s b)
-          → ((b ≡ 0) ⊎ (b ≡ top)) ⊎ ((Ended c b ⊎ EndsAt m first s b) ⊎ EndsAt (then m first s) second t b)
-      back (inl h) = inl h
+      back : ((b ≡ 0) ⊎ (b ≡ top y)) ⊎ ((Ended c b ⊎ EndsAt m first′ t b) ⊎ EndsAt (then m first′ t) second′ s b)
+          → ((b ≡ 0) ⊎ (b ≡ top x)) ⊎ ((Ended c b ⊎ EndsAt m first s b) ⊎ EndsAt (then m first s) second t b)
+      back (inl h) = inl (rw same-top h)
       back (inr (inl (inl h))) = inr (inl (inl h))
-      back (inr (inl (inr h))) = inr (inr (moved _ _ first′ second t j two b h))
-      back (inr (inr h)) = inr (inl (inr (moved _ _ second′ first s i one b h)))
+      back (inr (inl (inr h))) = inr (inr (moved _ _ first′ second t j c (more first s c) two b h))
+      back (inr (inr h)) = inr (inl (inr (moved _ _ second′ first s i (more first′ t c) c one b h)))
 
   -- THE LAW: the cutting is the same
-  same-cutting : (x .atoms ≡ y .atoms) × (x .cut ≡ y .cut)
-  same-cutting = same-cuts (sound x came-x .cuts) (sound y came-y .cuts) same-boundary
+  same-cutting : (x .atoms .count ≡ y .atoms .count) × (x .atoms .cut ≡ y .atoms .cut)
+  same-cutting = same-cuts (sound x came-x .cuts) (rw same-top (sound y came-y .cuts)) same-boundary
 
   -- what neither of two updates touches
   kept : {A : Type 0} (f : State → A) → ((o p : State) (k w : ℕ) → Stores o p k w → f p ≡ f o) → f x ≡ f y
@@ -111,12 +127,10 @@ module _ (m : State) (first second first′ second′ : ℕ) (s t : List ℕ) (i
 
   same-alike : Alike x y
   same-alike = record {
-    phase = kept (λ o. o .phase) (λ o p k w S. S .phase);
-    nodes = kept (λ o. o .nodes) (λ o p k w S. S .nodes);
-    links = kept (λ o. o .links) (λ o p k w S. S .links);
-    atoms = same-cutting .0;
-    link = kept (λ o. o .link) (λ o p k w S. S .link);
+    width = kept (λ o. o .width) (λ o p k w S. S .width);
+    plan = kept (λ o. o .plan) (λ o p k w S. S .plan);
     rule = swapped-rules;
+    count = same-cutting .0;
     cut = same-cutting .1;
   }
 
@@ -124,8 +138,8 @@ module _ (m : State) (first second first′ second′ : ℕ) (s t : List ℕ) (i
   same-twins : Twins x y
   same-twins =
       let A = same-alike in
-      let ph : x .phase ≡ 2 = stores _ second t j two .phase ∙ closed-hall _ second t j two in
-      twins x y came-x came-y ph (sym (A .phase) ∙ ph) (A .nodes) (A .links) (A .link) (A .rule)
+      let ph : x .plan .phase ≡ 2 = ap (λ (p : Plan). p .phase) (stores _ second t j two .plan) ∙ closed-hall _ second t j two in
+      twins x y came-x came-y ph (A .plan) (A .rule)
 
 pub swapped-twins : {x y : State} → EitherOrder x y → Twins x y
 swapped-twins (either first second first′ second′ s t i j c a one two one′ two′) = same-twins _ first second first′ second′ s t i j c a one two one′ two′
@@ -133,8 +147,8 @@ swapped-twins (either first second first′ second′ s t i j c a one two one′
 swapped-alike : {x y : State} → EitherOrder x y → Alike x y
 swapped-alike (either first second first′ second′ s t i j c a one two one′ two′) = same-alike _ first second first′ second′ s t i j c a one two one′ two′
 
-pub swapped-cutting : {x y : State} → EitherOrder x y → (calls : List Call) → (since x calls .atoms ≡ since y calls .atoms) × (since x calls .cut ≡ since y calls .cut)
-swapped-cutting {x} {y} E calls = let A = alike-since calls x y (swapped-alike E) in (A .atoms, A .cut)
+pub swapped-cutting : {x y : State} → EitherOrder x y → (calls : List Call) → (since x calls .atoms .count ≡ since y calls .atoms .count) × (since x calls .atoms .cut ≡ since y calls .atoms .cut)
+swapped-cutting {x} {y} E calls = let A = alike-since calls x y (swapped-alike E) in (A .count, A .cut)
 
 -- THE LAW: every later step is taken alike
 pub swapped-later : {x y : State} → EitherOrder x y → (calls : List Call) (room : ℕ) (s : List ℕ) → SameStep (stepOf (since x calls) room s) (stepOf (since y calls) room s)

@@ -3,7 +3,7 @@ use mathlib.Core.Path.{_≡_, refl, sym, ap, _∙_}
 use mathlib.Core.Logic.{⊎-elim}
 use mathlib.Core.Bool.{Bool, true, false, not, _&&_, _||_, true≢false, or-false}
 use mathlib.Core.List.{List}
-use Prim.Native.Nat.{ℕ, zero, suc, _+_, _-_, _^_, _≤_, _<_}
+use Prim.Native.Nat.{ℕ, zero, suc, _+_, _-_, _≤_, _<_}
 use native.Mathlib.Nat.{add-zero, add-suc}
 use native.Mathlib.Omega.{arith}
 use lib.Dec.{ltb, eqb}
@@ -12,8 +12,8 @@ use lib.ListN.{getD}
 use borrow.Author.Tests.{eq-eqb, ne-eqb, lt-ltb, le-ltb}
 use Rattle.meaning.specs.Search.{pick, countBelow}
 use Rattle.meaning.specs.Hall.{top, State}
-use Rattle.meaning.specs.Rule.{lower, upper}
-use Rattle.meaning.specs.Atoms.{isCut}
+use Rattle.meaning.specs.Rule.{lower, upper, span}
+use Rattle.meaning.specs.Atoms.{isCut, isBoundary}
 use Rattle.meaning.specs.Step.{added}
 use Rattle.meaning.specs.Tables.{Cuts}
 use Rattle.meaning.proofs.base.Order.{le-or-lt, Order, less, same, more, order}
@@ -117,6 +117,15 @@ module _ {t : ℕ} {cut : List ℕ} {n : ℕ} (W : Cuts (suc t) cut n) (p q : �
       omega (arith, rw at-zero at one, two, three, count-all W, four, counts p (omega arith) (C p) refl)
 
 -- THE LAW: one fewer than the atoms and what a rule adds, which check 13 looks at
-pub inner-count : (m : State) → Cuts top (m .cut) (m .atoms) → (w p n : ℕ) → lower w ≡ p → upper w ≡ p + 2 ^ (32 - n) → upper w ≤ top → innerWith m p n + 1 ≡ m .atoms + added m w
+pub inner-count : (m : State) → Cuts (top m) (m .atoms .cut) (m .atoms .count) → (w p n : ℕ) → lower (m .width) w ≡ p → upper (m .width) w ≡ p + span (m .width) n → upper (m .width) w ≤ top m
+    → innerWith m p n + 1 ≡ m .atoms .count + added m w
 unfolding innerWith added
-inner-count m W w p n e f h = rw (e, f) (count-with {t = 4294967295} W p (p + 2 ^ (32 - n)) (omega (arith, pow-pos (32 - n))) (omega arith))
+inner-count m W w p n e f h = rw (e, f) (go (top m) (pow-pos (m .width)) W (omega arith))
+  where
+    q : ℕ
+    q = p + span (m .width) n
+
+    go : (t : ℕ) → 0 < t → Cuts t (m .atoms .cut) (m .atoms .count) → q ≤ t
+        → countBelow t (λ b. ltb 0 b && (isBoundary m b || eqb b p || eqb b q)) + 1 ≡ m .atoms .count + (pick (isBoundary m p) 0 1 + pick (isBoundary m q) 0 1)
+    go zero h W g = absurd (omega arith)
+    go (suc t) h W g = count-with W p q (omega (arith, pow-pos (m .width - n))) g

@@ -9,29 +9,28 @@ use Prim.Native.Nat.{ℕ, zero, suc, _+_, _-_, _^_, _≤_, _<_}
 use native.Mathlib.Omega.{arith}
 use lib.Pow.{pow-pos}
 use lib.ListN.{getD}
-use borrow.Author.Tests.{eqb-true, not-false}
 use Rattle.meaning.specs.declared.Answer.{Answer}
 use Rattle.meaning.specs.declared.Answer.the-variants.{Changed}
 use Rattle.meaning.specs.declared.Read.the-variants.{Got}
 use Rattle.meaning.specs.declared.Record.{Record}
-use Rattle.meaning.specs.declared.Record.the-variants.{Hall as hall, Link as link, Close as close, Insert as insert, Remove as remove, Loop as loop, Fate as fate, Reach as reach, Tally as tally}
 use Rattle.meaning.specs.Search.{pick}
-use Rattle.meaning.specs.Hall.{top, State, fresh}
-use Rattle.meaning.specs.Rule.{ruleWord, lower, upper}
-use Rattle.meaning.specs.Atoms.{placeOf, isCut, insertAt, splitCut, splitCount, withCut}
+use Rattle.meaning.specs.Hall.{top, State, empty, fresh, ipv4}
+use Rattle.meaning.specs.Rule.{ruleWord, lower, upper, span}
+use Rattle.meaning.specs.Atoms.{placeOf, isCut, insertAt, splitCut, splitCount, withCut, isBoundary}
 use Rattle.meaning.specs.Questions.{byAddress}
-use Rattle.meaning.specs.Records.{readOf, phaseOf}
-use Rattle.meaning.specs.Step.{Done, refusal, added, withRule, inserted, withNodes, withLink, closed, leaves, only, answers, accepted, stepWith, stepOf}
+use Rattle.meaning.specs.Records.{readOf, Update, insert, remove, Question, Sort, setUp, update, question, sortOf}
+use Rattle.meaning.specs.Step.{Done, added, updateRefusal, withRule, inserted, updated, refusal, leaves, only, answers, accepted, stepWith, stepOf}
 use Rattle.meaning.specs.Run.{Came, start, more}
-use Rattle.meaning.specs.Tables.{Cuts, Boundary, Sound}
+use Rattle.meaning.specs.Tables.{Cuts, Boundary, Sound, BoundaryOf}
 use Rattle.meaning.proofs.base.InsertAt.{insert-below, insert-same, insert-over}
 use Rattle.meaning.proofs.base.Order.{clash, Order, less, same, more as past, order}
 use Rattle.meaning.proofs.atoms.Splits.{within, is-boundary, boundary-is, split-count}
 use Rattle.meaning.proofs.records.Checks.{when-none, Clear, clear}
-use Rattle.meaning.proofs.records.Fields.{Sized, Fits}
+use Rattle.meaning.proofs.records.Fields.{Sized, FitsUpdate, Fits}
 use Rattle.meaning.proofs.rules.Words.{lower-of, upper-of}
+use Rattle.meaning.proofs.sound.Sound.{came-fits, top-is}
 use Rattle.meaning.proofs.sound.Kept.{rule-fits, RoomForEnds, room-for, room-lower, keeps-lower, missing, count-lower, room-upper, ends-keep, has-lower, has-upper, sound}
-use Rattle.meaning.proofs.records.Steps.{Stepped, short, ended, unread, turned, took, reads-fit, stepped}
+use Rattle.meaning.proofs.records.Steps.{Stepped, short, ended, unread, turned, took, stepped}
 
 -- a split makes b a boundary and no other number
 split-only : (top : ℕ) (cut : List ℕ) (n b : ℕ) → Cuts top cut n → b ≤ top → (isCut cut n b ≡ false → n < 512) → (x : ℕ)
@@ -56,12 +55,12 @@ split-only top cut n b w bt room x = go (isCut cut n b) refl
 
 -- ---- an accepted insert
 
-module _ (m : State) (S : Sound m) (r l p n t : ℕ) (F : Sized l p t) (C : Clear m r l p n t) where
+module _ (m : State) (S : Sound m) (r l p n t : ℕ) (F : Sized (m .width) l p t) (C : Clear m r l p n t) where
   abbrev w : ℕ
-  w = ruleWord l p n t
+  w = ruleWord (m .width) l p n t
 
   abbrev M : State
-  M = withCut m (lower w)
+  M = withCut m (lower (m .width) w)
 
   abbrev N : State
   N = inserted m r w
@@ -69,76 +68,71 @@ module _ (m : State) (S : Sound m) (r l p n t : ℕ) (F : Sized l p t) (C : Clea
   R : RoomForEnds m w
   R = room-for m S F C
 
-  from-is : lower w ≡ p
+  from-is : lower (m .width) w ≡ p
   from-is = lower-of (rule-fits S F C)
 
-  to-is : upper w ≡ p + 2 ^ (32 - n)
+  to-is : upper (m .width) w ≡ p + span (m .width) n
   to-is = upper-of (rule-fits S F C)
 
   -- both ends are boundaries then, what was one still is, and nothing else has become one
-  insert-keeps : (x : ℕ) → Boundary (m .cut) (m .atoms) x → Boundary (N .cut) (N .atoms) x
+  insert-keeps : (x : ℕ) → BoundaryOf m x → BoundaryOf N x
   unfolding inserted withRule
   insert-keeps = ends-keep m S w R
 
-  insert-has : (x : ℕ) → (x ≡ p) ⊎ (x ≡ p + 2 ^ (32 - n)) → Boundary (N .cut) (N .atoms) x
+  insert-has : (x : ℕ) → (x ≡ p) ⊎ (x ≡ p + span (m .width) n) → BoundaryOf N x
   unfolding inserted withRule
-  insert-has x (inl e) = subst (Boundary (N .cut) (N .atoms)) (from-is ∙ sym e) (has-lower m S w R)
-  insert-has x (inr e) = subst (Boundary (N .cut) (N .atoms)) (to-is ∙ sym e) (has-upper m S w R)
+  insert-has x (inl e) = subst (BoundaryOf N) (from-is ∙ sym e) (has-lower m S w R)
+  insert-has x (inr e) = subst (BoundaryOf N) (to-is ∙ sym e) (has-upper m S w R)
 
   -- what each of the two splits makes a boundary
-  lower-only : (x : ℕ) → Boundary (M .cut) (M .atoms) x → (x ≡ lower w) ⊎ Boundary (m .cut) (m .atoms) x
+  lower-only : (x : ℕ) → BoundaryOf M x → (x ≡ lower (m .width) w) ⊎ BoundaryOf m x
   unfolding withCut
-  lower-only = split-only top (m .cut) (m .atoms) (lower w) (S .cuts) (R .lower-top) (room-lower m S w R)
+  lower-only = split-only (top m) (m .atoms .cut) (m .atoms .count) (lower (m .width) w) (S .cuts) (R .lower-top) (room-lower m S w R)
 
-  upper-only : (x : ℕ) → Boundary (N .cut) (N .atoms) x → (x ≡ upper w) ⊎ Boundary (M .cut) (M .atoms) x
+  upper-only : (x : ℕ) → BoundaryOf N x → (x ≡ upper (m .width) w) ⊎ BoundaryOf M x
   unfolding inserted withRule withCut
-  upper-only = split-only top (M .cut) (M .atoms) (upper w) (keeps-lower m S w R .cuts) (R .upper-top) (room-upper m S w R)
+  upper-only = split-only (top m) (M .atoms .cut) (M .atoms .count) (upper (m .width) w) (keeps-lower m S w R .cuts) (R .upper-top) (room-upper m S w R)
 
-  insert-only : (x : ℕ) → Boundary (N .cut) (N .atoms) x → ((x ≡ p) ⊎ (x ≡ p + 2 ^ (32 - n))) ⊎ Boundary (m .cut) (m .atoms) x
+  insert-only : (x : ℕ) → BoundaryOf N x → ((x ≡ p) ⊎ (x ≡ p + span (m .width) n)) ⊎ BoundaryOf m x
   insert-only x h =
-      ⊎-elim (λ (e : x ≡ upper w). inl (inr (e ∙ to-is))) (λ (g : Boundary (M .cut) (M .atoms) x).
-      ⊎-elim (λ (e : x ≡ lower w). inl (inl (e ∙ from-is))) inr (lower-only x g)) (upper-only x h)
+      ⊎-elim (λ (e : x ≡ upper (m .width) w). inl (inr (e ∙ to-is))) (λ (g : BoundaryOf M x).
+      ⊎-elim (λ (e : x ≡ lower (m .width) w). inl (inl (e ∙ from-is))) inr (lower-only x g)) (upper-only x h)
 
   -- so the count of check 13 is exact: as many boundaries are added as it says
-  pub same-cut : isCut (M .cut) (M .atoms) (upper w) ≡ isCut (m .cut) (m .atoms) (upper w)
+  pub same-cut : isBoundary M (upper (m .width) w) ≡ isBoundary m (upper (m .width) w)
   same-cut = go _ refl _ refl
     where
-      go : (x : Bool) → isCut (M .cut) (M .atoms) (upper w) ≡ x → (y : Bool) → isCut (m .cut) (m .atoms) (upper w) ≡ y → x ≡ y
+      go : (x : Bool) → isBoundary M (upper (m .width) w) ≡ x → (y : Bool) → isBoundary m (upper (m .width) w) ≡ y → x ≡ y
       go true e true f = refl
       go true e false f =
-          ⊎-elim (λ (q : upper w ≡ lower w). absurd (omega (arith, from-is, to-is, pow-pos (32 - n))))
-          (λ (g : Boundary (m .cut) (m .atoms) (upper w)). sym (boundary-is (S .cuts) (upper w) g) ∙ f)
-          (lower-only (upper w) (is-boundary (M .cut) (M .atoms) (upper w) e))
+          ⊎-elim (λ (q : upper (m .width) w ≡ lower (m .width) w). absurd (omega (arith, from-is, to-is, pow-pos (m .width - n))))
+          (λ (g : BoundaryOf m (upper (m .width) w)). sym (boundary-is (S .cuts) (upper (m .width) w) g) ∙ f)
+          (lower-only (upper (m .width) w) (is-boundary (M .atoms .cut) (M .atoms .count) (upper (m .width) w) e))
       go false e y f = sym (missing m S w R e) ∙ f
 
-  pub insert-count : N .atoms ≡ m .atoms + added m w
+  pub insert-count : N .atoms .count ≡ m .atoms .count + added m w
   unfolding inserted withRule withCut added
   insert-count =
-      split-count top (M .cut) (M .atoms) (upper w) (keeps-lower m S w R .cuts) (R .upper-top) (room-upper m S w R)
-      ∙ ap (λ (x : Bool). M .atoms + pick x 0 1) same-cut ∙ (let e = count-lower m S w R in omega (arith, e))
+      split-count (top m) (M .atoms .cut) (M .atoms .count) (upper (m .width) w) (keeps-lower m S w R .cuts) (R .upper-top) (room-upper m S w R)
+      ∙ ap (λ (x : Bool). M .atoms .count + pick x 0 1) same-cut ∙ (let e = count-lower m S w R in omega (arith, e))
 
 -- ---- since the start
 
--- b is an end of the rule that a record inserts
-unfoldable pub IsEnd : Record → ℕ → Type 0
-IsEnd (hall n) b = ⊥
-IsEnd (link s c e) b = ⊥
-IsEnd close b = ⊥
-IsEnd (insert r l p n t) b = (b ≡ p) ⊎ (b ≡ p + 2 ^ (32 - n))
-IsEnd (remove r) b = ⊥
-IsEnd loop b = ⊥
-IsEnd (fate v a) b = ⊥
-IsEnd (reach v w) b = ⊥
-IsEnd (tally v) b = ⊥
+-- b is an end of the rule that an update inserts
+unfoldable pub IsEnd : ℕ → Update → ℕ → Type 0
+IsEnd width (insert r l p n t) b = (b ≡ p) ⊎ (b ≡ p + span width n)
+IsEnd width (remove r) b = ⊥
 
 -- the step on the bytes s accepts a rule that has an end at b
 pub record EndsAt (m : State) (room : ℕ) (s : List ℕ) (b : ℕ) : Type 0 where
   pub taken : Record
   pub bytes : ℕ
+  pub rule : Update
   pub count : ℕ
   pub reads : readOf s ≡ Got taken bytes
+  pub updates : sortOf taken ≡ update rule
   pub ok : stepOf m room s .answer ≡ Changed count
-  pub end : IsEnd taken b
+  pub end : IsEnd (m .width) rule b
 
 -- b is an end of a rule accepted since the start, on the way by which a state came
 unfoldable pub Ended : {m : State} → Came m → ℕ → Type 0
@@ -147,50 +141,48 @@ Ended (more {m = m} room s c) b = Ended c b ⊎ EndsAt m room s b
 
 module _ (m : State) (S : Sound m) (x : ℕ) where
   abbrev Was : Type 0
-  Was = Boundary (m .cut) (m .atoms) x
+  Was = BoundaryOf m x
 
   abbrev Is : State → Type 0
-  Is n = Boundary (n .cut) (n .atoms) x
+  Is n = BoundaryOf n x
 
-  record-keeps : (r : Record) → Fits r → m .phase ≡ phaseOf r → refusal m r ≡ none → Was → Is (leaves m r)
-  unfolding leaves withNodes withLink closed withRule phaseOf Fits
-  record-keeps (hall n) f ph ok h = h
-  record-keeps (link s c e) f ph ok h = h
-  record-keeps close f ph ok h = h
-  record-keeps (insert r l p n t) f ph ok h = insert-keeps m S r l p n t f (clear m r l p n t ok) x h
-  record-keeps (remove r) f ph ok h = h
-  record-keeps loop f ph ok h = h
-  record-keeps (fate v a) f ph ok h = h
-  record-keeps (reach v w) f ph ok h = h
-  record-keeps (tally v) f ph ok h = h
+  update-keeps : (u : Update) → FitsUpdate (m .width) u → updateRefusal m u ≡ none → Was → Is (updated m u)
+  unfolding updated withRule FitsUpdate
+  update-keeps (insert r l p n t) f ok h = insert-keeps m S r l p n t f (clear m r l p n t ok) x h
+  update-keeps (remove r) f ok h = h
 
-  record-has : (r : Record) → Fits r → m .phase ≡ phaseOf r → refusal m r ≡ none → IsEnd r x → Is (leaves m r)
-  unfolding leaves phaseOf Fits IsEnd
-  record-has (hall n) f ph ok h = absurd h
-  record-has (link s c e) f ph ok h = absurd h
-  record-has close f ph ok h = absurd h
-  record-has (insert r l p n t) f ph ok h = insert-has m S r l p n t f (clear m r l p n t ok) x h
-  record-has (remove r) f ph ok h = absurd h
-  record-has loop f ph ok h = absurd h
-  record-has (fate v a) f ph ok h = absurd h
-  record-has (reach v w) f ph ok h = absurd h
-  record-has (tally v) f ph ok h = absurd h
+  update-has : (u : Update) → FitsUpdate (m .width) u → updateRefusal m u ≡ none → IsEnd (m .width) u x → Is (updated m u)
+  unfolding updated FitsUpdate IsEnd
+  update-has (insert r l p n t) f ok h = insert-has m S r l p n t f (clear m r l p n t ok) x h
+  update-has (remove r) f ok h = absurd h
 
-  -- and where an end has come up, the answer is that of an insert
-  record-only : (ask : Record → Answer) (r : Record) → Fits r → m .phase ≡ phaseOf r → refusal m r ≡ none → Is (leaves m r)
-      → (IsEnd r x × ((k : ℕ) × (answers ask m r ≡ Changed k))) ⊎ Was
-  unfolding leaves withNodes withLink closed withRule phaseOf Fits IsEnd answers
-  record-only ask (hall n) f ph ok h = inr h
-  record-only ask (link s c e) f ph ok h = inr h
-  record-only ask close f ph ok h = inr h
-  record-only ask (insert r l p n t) f ph ok h = ⊎-elim (λ e. inl (e, (_, refl))) inr (insert-only m S r l p n t f (clear m r l p n t ok) x h)
-  record-only ask (remove r) f ph ok h = inr h
-  record-only ask loop f ph ok h = inr h
-  record-only ask (fate v a) f ph ok h = inr h
-  record-only ask (reach v w) f ph ok h = inr h
-  record-only ask (tally v) f ph ok h = inr h
+  update-only : (u : Update) → FitsUpdate (m .width) u → updateRefusal m u ≡ none → Is (updated m u) → IsEnd (m .width) u x ⊎ Was
+  unfolding updated withRule FitsUpdate IsEnd
+  update-only (insert r l p n t) f ok h = insert-only m S r l p n t f (clear m r l p n t ok) x h
+  update-only (remove r) f ok h = inr h
 
-  module _ (room : ℕ) (s : List ℕ) where
+  -- what a record leaves: its ends have come up, where it is an update
+  record-keeps : (r : Sort) → Fits (m .width) r → refusal m r ≡ none → Was → Is (leaves m r)
+  unfolding refusal leaves Fits
+  record-keeps (setUp u) f ok h = h
+  record-keeps (update u) f ok h = update-keeps u f ok h
+  record-keeps (question q) f ok h = h
+
+  -- and where an end has come up, the record is an update and so is its answer
+  record ComesUp (ask : Question → Answer) (r : Sort) : Type 0 where
+    rule : Update
+    is : r ≡ update rule
+    count : ℕ
+    answer : answers ask m r ≡ Changed count
+    end : IsEnd (m .width) rule x
+
+  record-only : (ask : Question → Answer) (r : Sort) → Fits (m .width) r → refusal m r ≡ none → Is (leaves m r) → ComesUp ask r ⊎ Was
+  unfolding refusal leaves Fits answers
+  record-only ask (setUp u) f ok h = inr h
+  record-only ask (update u) f ok h = ⊎-elim (λ e. inl (record { rule = u; is = refl; count = _; answer = refl; end = e })) inr (update-only u f ok h)
+  record-only ask (question q) f ok h = inr h
+
+  module _ (c : Came m) (room : ℕ) (s : List ℕ) where
     step-keeps : Was → Is (stepOf m room s .left)
     unfolding stepOf only accepted
     step-keeps h = go _ (stepped (byAddress m) m room s)
@@ -200,7 +192,7 @@ module _ (m : State) (S : Sound m) (x : ℕ) where
         go d (ended l g) = h
         go d (unread k l g o) = h
         go d (turned r n k l g pos f b) = h
-        go d (took r n l g pos f) = let y = when-none _ _ _ f in record-keeps r (reads-fit s r n g) (eqb-true _ _ (not-false _ (y .0))) (y .1) h
+        go d (took r n l g pos f) = let y = when-none _ _ _ f in record-keeps (sortOf r) (came-fits c s r n g) (y .1) h
 
     step-only : Is (stepOf m room s .left) → EndsAt m room s x ⊎ Was
     unfolding stepOf only accepted
@@ -213,11 +205,12 @@ module _ (m : State) (S : Sound m) (x : ℕ) where
         go d (turned r n k l g pos f b) e h = inr h
         go d (took r n l g pos f) e h =
             let y = when-none _ _ _ f in
-            ⊎-elim (λ z. inl (record { taken = r; bytes = n; count = z .1 .0; reads = g; ok = ap (λ (d : Done). d .answer) e ∙ z .1 .1; end = z .0 })) inr
-            (record-only (byAddress m) r (reads-fit s r n g) (eqb-true _ _ (not-false _ (y .0))) (y .1) h)
+            ⊎-elim (λ (z : ComesUp (byAddress m) (sortOf r)).
+            inl (record { taken = r; bytes = n; rule = z .rule; count = z .count; reads = g; updates = z .is; ok = ap (λ (d : Done). d .answer) e ∙ z .answer; end = z .end })) inr
+            (record-only (byAddress m) (sortOf r) (came-fits c s r n g) (y .1) h)
 
     step-has : EndsAt m room s x → Is (stepOf m room s .left)
-    unfolding stepOf only accepted
+    unfolding stepOf only accepted refusal leaves Fits
     step-has E = go _ (stepped (byAddress m) m room s) (E .ok)
       where
         go : (d : Done) → Stepped (byAddress m) m room s d → d .answer ≡ Changed (E .count) → Is (d .left)
@@ -228,40 +221,41 @@ module _ (m : State) (S : Sound m) (x : ℕ) where
         go d (took r n l g pos f) e =
             let y = when-none _ _ _ f in
             let q : E .taken ≡ r = cc (E .reads) in
-            record-has r (reads-fit s r n g) (eqb-true _ _ (not-false _ (y .0))) (y .1) (subst (λ (z : Record). IsEnd z x) q (E .end))
+            let u : sortOf r ≡ update (E .rule) = ap sortOf (sym q) ∙ E .updates in
+            rw u (update-has (E .rule) (rw u at (came-fits c s r n g)) (rw u at (y .1)) (E .end))
 
-fresh-only : (b : ℕ) → Boundary (fresh .cut) (fresh .atoms) b → (b ≡ 0) ⊎ (b ≡ top)
-unfolding fresh
+fresh-only : (b : ℕ) → BoundaryOf fresh b → (b ≡ 0) ⊎ (b ≡ 2 ^ ipv4)
+unfolding empty
 fresh-only b h = go (h .place) (h .within) (h .is)
   where
-    go : (p : ℕ) → p ≤ 1 → getD (fresh .cut) p 0 ≡ b → (b ≡ 0) ⊎ (b ≡ top)
+    go : (p : ℕ) → p ≤ 1 → getD (fresh .atoms .cut) p 0 ≡ b → (b ≡ 0) ⊎ (b ≡ 2 ^ ipv4)
     go zero l e = inl (sym e)
     go (suc zero) l e = inr (sym e)
     go (suc (suc p)) l e = absurd (omega arith)
 
-came-from : (b : ℕ) (m : State) (c : Came m) → Boundary (m .cut) (m .atoms) b → ((b ≡ 0) ⊎ (b ≡ top)) ⊎ Ended c b
+came-from : (b : ℕ) (m : State) (c : Came m) → BoundaryOf m b → ((b ≡ 0) ⊎ (b ≡ 2 ^ ipv4)) ⊎ Ended c b
 unfolding Ended
 came-from b m start h = inl (fresh-only b h)
-came-from b m (more {m = o} room s c) h = go (step-only o (sound o c) b room s h) (λ g. came-from b o c g)
+came-from b m (more {m = o} room s c) h = go (step-only o (sound o c) b c room s h) (λ g. came-from b o c g)
   where
-    go : EndsAt o room s b ⊎ Boundary (o .cut) (o .atoms) b → (Boundary (o .cut) (o .atoms) b → ((b ≡ 0) ⊎ (b ≡ top)) ⊎ Ended c b) → ((b ≡ 0) ⊎ (b ≡ top)) ⊎ (Ended c b ⊎ EndsAt o room s b)
+    go : EndsAt o room s b ⊎ BoundaryOf o b → (BoundaryOf o b → ((b ≡ 0) ⊎ (b ≡ 2 ^ ipv4)) ⊎ Ended c b) → ((b ≡ 0) ⊎ (b ≡ 2 ^ ipv4)) ⊎ (Ended c b ⊎ EndsAt o room s b)
     go (inl e) f = inr (inr e)
     go (inr h) f = ⊎-elim inl (λ e. inr (inl e)) (f h)
 
-stays : (b : ℕ) (m : State) (c : Came m) → Ended c b → Boundary (m .cut) (m .atoms) b
+stays : (b : ℕ) (m : State) (c : Came m) → Ended c b → BoundaryOf m b
 unfolding Ended
 stays b m start h = absurd h
-stays b m (more {m = o} room s c) (inl h) = step-keeps o (sound o c) b room s (stays b o c h)
-stays b m (more {m = o} room s c) (inr h) = step-has o (sound o c) b room s h
+stays b m (more {m = o} room s c) (inl h) = step-keeps o (sound o c) b c room s (stays b o c h)
+stays b m (more {m = o} room s c) (inr h) = step-has o (sound o c) b c room s h
 
 -- THE LAW: the boundaries are 0, the end of the range, and both ends of each rule accepted since the start; so removal keeps them
-pub boundaries : (m : State) (c : Came m) (b : ℕ) → Boundary (m .cut) (m .atoms) b ↔ (((b ≡ 0) ⊎ (b ≡ top)) ⊎ Ended c b)
-boundaries m c b = (came-from b m c, back)
+pub boundaries : (m : State) (c : Came m) (b : ℕ) → BoundaryOf m b ↔ (((b ≡ 0) ⊎ (b ≡ top m)) ⊎ Ended c b)
+boundaries m c b = (λ h. rw (top-is c) (came-from b m c h), back)
   where
-    W : Cuts top (m .cut) (m .atoms)
+    W : Cuts (top m) (m .atoms .cut) (m .atoms .count)
     W = sound m c .cuts
 
-    back : ((b ≡ 0) ⊎ (b ≡ top)) ⊎ Ended c b → Boundary (m .cut) (m .atoms) b
+    back : ((b ≡ 0) ⊎ (b ≡ top m)) ⊎ Ended c b → BoundaryOf m b
     back (inl (inl e)) = record { place = 0; within = omega arith; is = W .first ∙ sym e }
-    back (inl (inr e)) = record { place = m .atoms; within = omega arith; is = W .last ∙ sym e }
+    back (inl (inr e)) = record { place = m .atoms .count; within = omega arith; is = W .last ∙ sym e }
     back (inr h) = stays b m c h

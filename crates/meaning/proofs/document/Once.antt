@@ -39,15 +39,15 @@ state x = stateOf (x .hall) (x .link) (x .rule) (x .cut) (x .number)
 pub lent-once : (x y : Lent) → state x ≡ state y → x .label ≡ y .label → x .owner ≡ y .owner → x ≡ y
 lent-once x y e l o = λ i. record {
   hall = record {
-    phase = ap (λ (m : State). m .phase) e i;
-    nodes = ap (λ (m : State). m .nodes) e i;
-    links = ap (λ (m : State). m .links) e i;
-    atoms = ap (λ (m : State). m .atoms) e i;
+    phase = ap (λ (m : State). m .plan .phase) e i;
+    nodes = ap (λ (m : State). m .plan .nodes) e i;
+    links = ap (λ (m : State). m .plan .links) e i;
+    atoms = ap (λ (m : State). m .atoms .count) e i;
   };
-  link = ap (λ (m : State). m .link) e i;
+  link = ap (λ (m : State). m .plan .link) e i;
   rule = ap (λ (m : State). m .rule) e i;
-  cut = ap (λ (m : State). m .cut) e i;
-  number = ap (λ (m : State). m .number) e i;
+  cut = ap (λ (m : State). m .atoms .cut) e i;
+  number = ap (λ (m : State). m .atoms .number) e i;
   label = l i;
   owner = o i;
 }

@@ -14,18 +14,14 @@ use lib.Seq.{drop-drop, getD-append-add, getD-drop}
 use borrow.Author.Tests.{eq-eqb, ne-eqb}
 use Rattle.meaning.specs.declared.Answer.{Answer}
 use Rattle.meaning.specs.declared.Answer.the-variants.{End, Refused, Ok, Changed, Loop, NoLoop, Went, Yes, No, Tally}
-use Rattle.meaning.specs.declared.Record.{Record}
-use Rattle.meaning.specs.declared.Record.the-variants.{Hall as hall, Link as link, Close as close, Insert as insert, Remove as remove, Loop as loop, Fate as fate, Reach as reach, Tally as tally}
 use Rattle.meaning.specs.Search.{pick, lowestBelow}
-use Rattle.meaning.specs.Hall.{top, State, fresh, sourceOf}
-use Rattle.meaning.specs.Rule.{linkOf}
-use Rattle.meaning.specs.Winner.{ruleAt}
+use Rattle.meaning.specs.Hall.{top, State, fresh}
 use Rattle.meaning.specs.Labels.{labelsOf}
 use Rattle.meaning.specs.Working.{ownersOf}
-use Rattle.meaning.specs.Changes.{overwrite}
+use Rattle.meaning.specs.Changes.{overwrite, entryWords}
 use Rattle.meaning.specs.Questions.{loopsAt, circleAt, someNode, loopFrom, reachesAt, reachFrom, asked, byAddress}
-use Rattle.meaning.specs.Records.{readOf, placeAfter}
-use Rattle.meaning.specs.Step.{Done, leaves, listed, changes, only, answers, accepted, stepOf}
+use Rattle.meaning.specs.Records.{readOf, placeAfter, Question, loop, fate, reach, tally, Sort, setUp, update, question, sortOf}
+use Rattle.meaning.specs.Step.{listRoom, Done, updated, nodeOf, listed, changes, leaves, writes, only, answers, accepted, stepOf}
 use Rattle.meaning.specs.Run.{Ran, runFrom, runOf, Came, start, more}
 use Rattle.meaning.specs.Box.{left, leftBy, leftOf, ranBy, ranOf}
 use Rattle.meaning.specs.Tables.{Sound}
@@ -49,14 +45,9 @@ sort (Yes a) = 2
 sort No = 2
 sort (Tally o l r) = 2
 
-reply : (m : State) (r : Record) → sort (byAddress m r) ≡ 2
+reply : (m : State) (q : Question) → sort (byAddress m q) ≡ 2
 unfolding byAddress asked sort
-reply m (hall n) = refl
-reply m (link s c e) = refl
-reply m close = refl
-reply m (insert r l p n t) = refl
-reply m (remove r) = refl
-reply m loop = go (lowestBelow top (loopsAt m))
+reply m loop = go (lowestBelow (top m) (loopsAt m))
   where
     node : (a : ℕ) (o : Option ℕ) → sort (someNode a o) ≡ 2
     node a none = unfold someNode in refl
@@ -66,7 +57,7 @@ reply m loop = go (lowestBelow top (loopsAt m))
     go none = unfold loopFrom in refl
     go (some a) = unfold loopFrom in node a (circleAt m a)
 reply m (fate v a) = refl
-reply m (reach v w) = go (lowestBelow top (reachesAt m v w))
+reply m (reach v w) = go (lowestBelow (top m) (reachesAt m v w))
   where
     go : (o : Option ℕ) → sort (reachFrom o) ≡ 2
     go none = unfold reachFrom in refl
@@ -96,17 +87,11 @@ stop-few k at-two = omega arith
 
 module _ (m : State) (room : ℕ) (s : List ℕ) where
   -- an accepted record is answered by none of these
-  answer-sort : (r : Record) → sort (answers (byAddress m) m r) ≡ 0 → ⊥
+  answer-sort : (r : Sort) → sort (answers (byAddress m) m r) ≡ 0 → ⊥
   unfolding answers sort
-  answer-sort (hall n) e = omega arith
-  answer-sort (link s c e) q = omega arith
-  answer-sort close e = omega arith
-  answer-sort (insert r l p n t) e = omega arith
-  answer-sort (remove r) e = omega arith
-  answer-sort loop e = omega (arith, reply m loop)
-  answer-sort (fate v a) e = omega (arith, reply m (fate v a))
-  answer-sort (reach v w) e = omega (arith, reply m (reach v w))
-  answer-sort (tally v) e = omega (arith, reply m (tally v))
+  answer-sort (setUp u) e = omega arith
+  answer-sort (update u) e = omega arith
+  answer-sort (question q) e = omega (arith, reply m q)
 
   -- THE LAW: no byte is passed exactly when the answer is "end", 0, 1 or 2
   pub stays : (stepOf m room s .passed ≡ 0) ↔ Stops (stepOf m room s .answer)
@@ -126,10 +111,10 @@ module _ (m : State) (room : ℕ) (s : List ℕ) where
       back d (ended l q) h = refl
       back d (unread k l q o) h = refl
       back d (turned r n k l q pos f b) h = absurd (omega (arith, stop-few k h))
-      back d (took r n l q pos f) h = absurd (answer-sort r (stop-sort _ h))
+      back d (took r n l q pos f) h = absurd (answer-sort (sortOf r) (stop-sort _ h))
 
 -- THE LAW: a reader goes on by as many bytes as a step passes, whatever the state
-pub reader-follows : (m : State) (room : ℕ) (s : List ℕ) (at : ℕ) → 5 * 512 ≤ room → placeAfter at (readOf s) ≡ at + stepOf m room s .passed
+pub reader-follows : (m : State) (room : ℕ) (s : List ℕ) (at : ℕ) → listRoom ≤ room → placeAfter at (readOf s) ≡ at + stepOf m room s .passed
 unfolding stepOf only accepted placeAfter
 reader-follows m room s at h = go _ (stepped _ m room s)
   where
@@ -227,27 +212,19 @@ run-stops list s = stopped start (runs list s)
 
 -- ---- the change list's length
 
--- n entries of five words, at most 512 of them
+-- n entries, at most 512 of them
 pub record Entries (n : ℕ) (written : List ℕ) : Type 0 where
-  pub words : length written ≡ 5 * n
+  pub words : length written ≡ entryWords * n
   pub few : n ≤ 512
 
 module _ (m : State) (room : ℕ) (s : List ℕ) (c : Came m) where
-  entries : (n : ℕ) (r : Record) (k : ℕ) → Sound (leaves m r) → answers (byAddress m) m r ≡ Changed k → Entries k (accepted (byAddress m) m n r .written)
-  unfolding accepted answers sort leaves changes listed
-  entries n (hall v) k S e = absurd (omega (arith, ap sort e))
-  entries n (link t o d) k S e = absurd (omega (arith, ap sort e))
-  entries n close k S e = absurd (omega (arith, ap sort e))
-  entries n (insert r l p i t) k S e =
-      let x : length (changes m (insert r l p i t)) ≡ k = cc in
-      record { words = entries-length m _ _ (changes m (insert r l p i t)) ∙ ap (λ (j : ℕ). 5 * j) x; few = omega (arith, x, changed-few m (leaves m (insert r l p i t)) (sourceOf m l) (leaves m (insert r l p i t) .atoms), S .cuts .room) }
-  entries n (remove r) k S e =
-      let x : length (changes m (remove r)) ≡ k = cc in
-      record { words = entries-length m _ _ (changes m (remove r)) ∙ ap (λ (j : ℕ). 5 * j) x; few = omega (arith, x, changed-few m (leaves m (remove r)) (sourceOf m (linkOf (ruleAt m r))) (leaves m (remove r) .atoms), S .cuts .room) }
-  entries n loop k S e = absurd (omega (arith, ap sort e, reply m loop))
-  entries n (fate v a) k S e = absurd (omega (arith, ap sort e, reply m (fate v a)))
-  entries n (reach v w) k S e = absurd (omega (arith, ap sort e, reply m (reach v w)))
-  entries n (tally v) k S e = absurd (omega (arith, ap sort e, reply m (tally v)))
+  entries : (n : ℕ) (r : Sort) (k : ℕ) → Sound (leaves m r) → answers (byAddress m) m r ≡ Changed k → Entries k (accepted (byAddress m) m n r .written)
+  unfolding accepted answers sort leaves writes listed
+  entries n (setUp u) k S e = absurd (omega (arith, ap sort e))
+  entries n (update u) k S e =
+      let x : length (changes m u) ≡ k = cc in
+      record { words = entries-length m _ _ (changes m u) ∙ ap (λ (j : ℕ). entryWords * j) x; few = omega (arith, x, changed-few m (updated m u) (nodeOf m u) (updated m u .atoms .count), S .cuts .room) }
+  entries n (question q) k S e = absurd (omega (arith, ap sort e, reply m q))
 
   -- THE LAW: `ok` and a number n come with n entries
   pub lists : (n : ℕ) → stepOf m room s .answer ≡ Changed n → Entries n (stepOf m room s .written)
@@ -259,7 +236,7 @@ module _ (m : State) (room : ℕ) (s : List ℕ) (c : Came m) where
       go d (ended l q) S e = absurd (omega (arith, ap sort e))
       go d (unread k l q o) S e = absurd (omega (arith, ap sort e))
       go d (turned r i k l q pos f b) S e = absurd (omega (arith, ap sort e))
-      go d (took r i l q pos f) S e = entries i r n S e
+      go d (took r i l q pos f) S e = entries i (sortOf r) n S e
 
 -- THE LAW: a run whose first step passes no byte leaves what that step leaves, having gone past no record
 pub ran-stops : (list s : List ℕ) → stepOf fresh (length list) s .passed ≡ 0 → ranOf list s ≡ leftOf fresh list s

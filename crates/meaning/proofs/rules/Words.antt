@@ -1,66 +1,90 @@
--- A rule's word and a link's word: each part is read back from it. Assumes nothing.
+-- A rule's word, over the width of its addresses, and a link's word: each part is read back from it. Assumes nothing.
 use mathlib.Core.Path.{_≡_, refl, sym, ap, _∙_}
 use mathlib.Core.Bool.{true, false, not}
 use Prim.Native.Nat.{ℕ, _+_, _-_, _*_, _/_, _%_, _^_, _≤_, _<_}
-use native.Mathlib.Nat.{div-add-mod', mul-le-mul-right, lt-of-mul-lt-mul-right, suc-mul}
+use native.Mathlib.Nat.{zero-div, div-add-mod', mul-le-mul-right, lt-of-mul-lt-mul-right, suc-mul}
 use native.Mathlib.Omega.{arith}
+use lib.Arith.{digits-div, digits-mod}
 use lib.Pow.{pow-add}
 use borrow.Author.Tests.{ne-eqb, eqb-true, not-false}
 use Rattle.meaning.specs.declared.End.{End}
 use Rattle.meaning.specs.declared.End.the-variants.{Node, Port, Drop}
-use Rattle.meaning.specs.declared.Record.the-variants.{Link as link}
-use Rattle.meaning.specs.Rule.{lengthOf, ruleWord, live, linkOf, rank, lower, upper}
+use Rattle.meaning.specs.Rule.{span, ruleWord, live, linkOf, freeOf, lengthOf, rank, lower, upper}
 use Rattle.meaning.specs.Hall.{endNumber, linkWord}
 
 -- ---- a rule's word: its parts come back from it
 
--- link, prefix, length and priority have room in a word
-pub record RuleFits (l p n t : ℕ) : Type 0 where
+-- link, prefix, length and priority have room in a word over addresses of a width
+pub record RuleFits (width l p n t : ℕ) : Type 0 where
+  pub wide : 0 < width
   pub link : l < 64
-  pub prefix : p < 2 ^ 32
-  pub long : n ≤ 32
+  pub prefix : p < 2 ^ width
+  pub long : n ≤ width
   pub priority : t < 2 ^ 16
 
-module _ {l p n t : ℕ} (R : RuleFits l p n t) where
-  pub link-of : linkOf (ruleWord l p n t) ≡ l
-  unfolding linkOf ruleWord
-  link-of = omega arith
+module _ {width l p n t : ℕ} (R : RuleFits width l p n t) where
+  abbrev w : ℕ
+  w = ruleWord width l p n t
 
-  -- its highest bit is bit 60, so that a live rule's word is never 0 and has room in 64 bits
-  pub word-size : (2 ^ 60 ≤ ruleWord l p n t) × (ruleWord l p n t < 2 ^ 61)
+  -- a priority with the one above it, and a length's free bits over that
+  abbrev marked : ℕ
+  marked = 2 ^ 16 + t
+
+  abbrev free : ℕ
+  free = marked * (2 * width) + (width - n)
+
+  above : w / 2 ^ width ≡ free * 64 + l
   unfolding ruleWord
-  word-size = (omega arith, omega arith)
+  above = digits-div (free * 64 + l) (R .prefix)
 
-  pub rank-of : rank (ruleWord l p n t) ≡ t
-  unfolding rank ruleWord
-  rank-of = omega arith
+  pub link-of : linkOf width w ≡ l
+  unfolding linkOf
+  link-of = rw above (digits-mod free (R .link))
 
-  pub lower-of : lower (ruleWord l p n t) ≡ p
-  unfolding lower ruleWord
-  lower-of = omega arith
+  behind : w / 2 ^ width / 64 ≡ free
+  behind = ap (λ (x : ℕ). x / 64) above ∙ digits-div free (R .link)
 
-  free-of : ruleWord l p n t / 2 ^ 38 % 64 ≡ 32 - n
-  unfolding ruleWord
-  free-of = omega arith
+  room : width - n < 2 * width
+  room = omega (arith, R .wide)
 
-  pub length-of : lengthOf (ruleWord l p n t) ≡ n
+  free-of : freeOf width w ≡ width - n
+  unfolding freeOf
+  free-of = rw behind (digits-mod marked room)
+
+  pub length-of : lengthOf width w ≡ n
   unfolding lengthOf
-  length-of = rw free-of (omega arith)
+  length-of = rw free-of (omega (arith, R .long))
 
-  pub upper-of : upper (ruleWord l p n t) ≡ p + 2 ^ (32 - n)
+  -- above all else stands the priority under a one
+  pub marked-of : w / 2 ^ width / 64 / (2 * width) ≡ 2 ^ 16 + t
+  marked-of = rw behind (digits-div marked room)
+
+  pub rank-of : rank width w ≡ t
+  unfolding rank
+  rank-of = rw marked-of (omega (arith, R .priority))
+
+  pub lower-of : lower width w ≡ p
+  unfolding lower ruleWord
+  lower-of = digits-mod (free * 64 + l) (R .prefix)
+
+  pub upper-of : upper width w ≡ p + span width n
   unfolding upper
-  upper-of = rw free-of (ap (λ (x : ℕ). x + 2 ^ (32 - n)) (unfold lower in lower-of))
+  upper-of = rw (free-of, lower-of)
 
-  pub live-of : live (ruleWord l p n t) ≡ true
-  unfolding live ruleWord
-  live-of = ap not (ne-eqb (ruleWord l p n t) 0 (λ e. omega arith))
+  -- so that a live rule's word is never 0
+  pub live-of : live w ≡ true
+  unfolding live
+  live-of = ap not (ne-eqb w 0 (λ e. omega (arith, marked-of, nothing e)))
+    where
+      nothing : w ≡ 0 → w / 2 ^ width / 64 / (2 * width) ≡ 0
+      nothing e = rw (e, zero-div (2 ^ width), zero-div (2 * width))
 
 -- an aligned prefix ends within the range
-pub within-top : (p n : ℕ) → p < 2 ^ 32 → n ≤ 32 → p % 2 ^ (32 - n) ≡ 0 → p + 2 ^ (32 - n) ≤ 2 ^ 32
-within-top p n hp hn e =
-    let d = 2 ^ (32 - n) in
+pub within-top : (width p n : ℕ) → p < 2 ^ width → n ≤ width → p % span width n ≡ 0 → p + span width n ≤ 2 ^ width
+within-top width p n hp hn e =
+    let d = span width n in
     let q = p / d in
-    let whole : 2 ^ 32 ≡ 2 ^ n * d = (let s : n + (32 - n) ≡ 32 = omega arith in sym (ap (λ (x : ℕ). 2 ^ x) s) ∙ pow-add 2 n (32 - n)) in
+    let whole : 2 ^ width ≡ 2 ^ n * d = (let s : n + (width - n) ≡ width = omega arith in sym (ap (λ (x : ℕ). 2 ^ x) s) ∙ pow-add 2 n (width - n)) in
     let same : q * d ≡ p = omega (arith, div-add-mod' p d) in
     let less : q < 2 ^ n = lt-of-mul-lt-mul-right d (omega arith) in
     omega (arith, mul-le-mul-right d less, suc-mul q d)

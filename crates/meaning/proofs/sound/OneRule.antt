@@ -1,51 +1,49 @@
 -- What an update does to the winners. State n has the rules of m and one more, rule r with the word z: an insert goes from
 -- m to n, a remove from n to m. With r, the winner is the better of the winner without it and r. Assumes nothing.
-use mathlib.Core.Path.{_≡_, refl, sym, ap, ap₂, _∙_, subst⁻¹}
+use mathlib.Core.Path.{_≡_, refl, sym, ap, _∙_, subst⁻¹}
 use mathlib.Core.Logic.{inl, inr, ⊎-elim}
 use mathlib.Core.Bool.{Bool, true, false, true≢false}
 use mathlib.Core.Option.{none}
-use Prim.Native.Nat.{ℕ, _+_, _*_, _/_, _≤_, _<_}
+use Prim.Native.Nat.{ℕ, _/_, _≤_, _<_}
 use native.Mathlib.Decide.{ℕ-discrete}
 use native.Mathlib.Omega.{arith}
-use lib.Dec.{ltb}
 use lib.ListN.{getD}
-use Rattle.meaning.specs.declared.Record.the-variants.{Insert as insert, Remove as remove}
-use Rattle.meaning.specs.Search.{pick}
 use Rattle.meaning.specs.Hall.{State, sourceOf}
-use Rattle.meaning.specs.Rule.{ruleWord, live, linkOf, rank, lower, upper, covers}
-use Rattle.meaning.specs.Winner.{better, ruleAt, eligible, winner}
+use Rattle.meaning.specs.Rule.{ruleWord, live, rank, lower, upper, covers}
+use Rattle.meaning.specs.Winner.{better, ruleAt, eligible, winner, nodeFor}
 use Rattle.meaning.specs.Working.{ownerWord}
 use Rattle.meaning.specs.Atoms.{withCut}
-use Rattle.meaning.specs.Records.{phaseOf}
-use Rattle.meaning.specs.Step.{refusal, withRule, inserted, leaves, nodeOf}
+use Rattle.meaning.specs.Records.{insert, remove}
+use Rattle.meaning.specs.Step.{updateRefusal, withRule, inserted, updated, nodeOf}
 use Rattle.meaning.specs.Tables.{Sound}
 use Rattle.meaning.proofs.rules.Words.{link-of, live-of}
-use Rattle.meaning.proofs.records.Fields.{Sized, Fits}
+use Rattle.meaning.proofs.records.Fields.{Sized, FitsUpdate}
 use Rattle.meaning.proofs.rules.Ranks.{Wins, keep-out, take-first, take-higher, keep-lower}
 use Rattle.meaning.proofs.sound.Winner.{Winner, fit, wins, winner-only}
 use Rattle.meaning.proofs.records.Checks.{Clear, clear, ClearRemove, clear-remove}
-use Rattle.meaning.proofs.sound.Kept.{rule-fits, rule-new, rule-old, keeps}
+use Rattle.meaning.proofs.sound.Kept.{rule-fits, rule-new, rule-old, keeps-update}
 
 pub winner-le : (m : State) → Sound m → (v a : ℕ) → winner m v a ≤ 256
 winner-le m S v a = ⊎-elim (λ x. omega (arith, x .0)) (λ x. omega (arith, x .within)) (wins m S v a)
 
 -- n has the rules of m and rule r besides, which has the word z and stands at node v
 pub record Joined (m n : State) (r z v : ℕ) : Type 0 where
+  pub width : n .width ≡ m .width
   pub less : Sound m
   pub more : Sound n
   pub slot : r < 256
-  pub links : n .link ≡ m .link
+  pub links : n .plan .link ≡ m .plan .link
   pub free : live (ruleAt m r) ≡ false
   pub word : ruleAt n r ≡ z
   pub alive : live z ≡ true
-  pub node : sourceOf n (linkOf z) ≡ v
+  pub node : nodeFor n z ≡ v
   pub others : (i : ℕ) → (i ≡ r → ⊥) → ruleAt n i ≡ ruleAt m i
 
 module _ (m n : State) (r z v : ℕ) (J : Joined m n r z v) (u a : ℕ) where
   -- the other rules are eligible as before
   other : (i : ℕ) → (i ≡ r → ⊥) → eligible n u a i ≡ eligible m u a i
   unfolding eligible sourceOf
-  other i d = rw (J .others i d, J .links)
+  other i d = rw (J .others i d, J .links, J .width)
 
   -- r is not eligible without
   not-free : eligible m u a r ≡ true → ⊥
@@ -73,18 +71,18 @@ module _ (m n : State) (r z v : ℕ) (J : Joined m n r z v) (u a : ℕ) where
         within = x .within;
         fits = sym (other w d) ∙ x .fits;
         highest = λ i h e q.
-            omega (arith, x .highest i h (still i e) q, ap rank (J .others i (apart i e)), ap rank (J .others w d));
+            rw (← J .others i (apart i e), ← J .others w d, ← J .width) (x .highest i h (still i e) q);
       })
 
   -- THE LAW: the winner with r is the better of the winner without it and r
-  pub joined : winner n u a ≡ better (eligible n u a) (λ i. rank (ruleAt n i)) (winner m u a) r
+  pub joined : winner n u a ≡ better (eligible n u a) (λ i. rank (n .width) (ruleAt n i)) (winner m u a) r
   joined = go (wins n (J .more) u a) (ℕ-discrete (winner n u a) r)
     where
       E : ℕ → Bool
       E = eligible n u a
 
       R : ℕ → ℕ
-      R i = rank (ruleAt n i)
+      R i = rank (n .width) (ruleAt n i)
 
       x : ℕ
       x = winner m u a
@@ -106,32 +104,31 @@ module _ (m n : State) (r z v : ℕ) (J : Joined m n r z v) (u a : ℕ) where
       go o (no d) = let s = stays d in sym s ∙ keeps (rw (sym s) at o) never (E r) refl
 
   -- r wins at its node and on its addresses only
-  pub where-wins : winner n u a ≡ r → (u ≡ v) × (covers z a ≡ true)
+  pub where-wins : winner n u a ≡ r → (u ≡ v) × (covers (n .width) z a ≡ true)
   where-wins e = go (wins n (J .more) u a)
     where
-      go : Winner n u a (winner n u a) → (u ≡ v) × (covers z a ≡ true)
+      go : Winner n u a (winner n u a) → (u ≡ v) × (covers (n .width) z a ≡ true)
       go (inl o) = absurd (omega (arith, o .0, J .slot))
       go (inr o) =
           let f = fit n (J .more) u a r (sym (ap (eligible n u a) e) ∙ o .fits) in (
-            sym (f .here) ∙ ap (λ (x : ℕ). sourceOf n (linkOf x)) (J .word) ∙ J .node,
-            sym (ap (λ (x : ℕ). covers x a) (J .word)) ∙ f .over,
+            sym (f .here) ∙ ap (nodeFor n) (J .word) ∙ J .node,
+            sym (ap (λ (x : ℕ). covers (n .width) x a) (J .word)) ∙ f .over,
           )
 
   -- the rule that wins in both is the same owner in both
   pub owner-alike : winner m u a ≡ winner n u a → ownerWord m (winner m u a) ≡ ownerWord n (winner n u a)
   unfolding ownerWord
-  owner-alike e =
-      let x = winner m u a in
-      ap (λ (w : ℕ). pick (ltb x 256) (linkOf w * 512 + (x + 1)) 0) (sym (J .others x never)) ∙ ap (ownerWord n) e
+  owner-alike e = rw (← e, J .others (winner m u a) never, J .width)
 
-module _ (m : State) (r : ℕ) (S : Sound m) (ph : m .phase ≡ 2) (ok : refusal m (remove r) ≡ none) where
+module _ (m : State) (r : ℕ) (S : Sound m) (ph : m .plan .phase ≡ 2) (ok : updateRefusal m (remove r) ≡ none) where
   live-there : ClearRemove m r
   live-there = clear-remove m r ok
 
   pub goes : (v : ℕ) → v ≡ nodeOf m (remove r) → Joined (withRule m r 0) m r (ruleAt m r) v
   unfolding nodeOf
   goes v e = record {
-    less = unfold leaves phaseOf Fits in keeps m (remove r) S tt ph ok;
+    width = unfold withRule in refl;
+    less = unfold updated FitsUpdate in keeps-update m (remove r) S tt ph ok;
     more = S;
     slot = live-there .number;
     links = unfold withRule in refl;
@@ -143,23 +140,24 @@ module _ (m : State) (r : ℕ) (S : Sound m) (ph : m .phase ≡ 2) (ok : refusal
   }
 
 -- an insert goes by way of the state whose boundaries are made
-module _ (m : State) (r l p n t : ℕ) (S : Sound m) (F : Sized l p t) (ph : m .phase ≡ 2) (ok : refusal m (insert r l p n t) ≡ none) where
+module _ (m : State) (r l p n t : ℕ) (S : Sound m) (F : Sized (m .width) l p t) (ph : m .plan .phase ≡ 2) (ok : updateRefusal m (insert r l p n t) ≡ none) where
   abbrev z : ℕ
-  z = ruleWord l p n t
+  z = ruleWord (m .width) l p n t
 
   C : Clear m r l p n t
   C = clear m r l p n t ok
 
-  pub comes : (o : State) → o ≡ withCut (withCut m (lower z)) (upper z) → Sound o → (v : ℕ) → v ≡ nodeOf m (insert r l p n t) → Joined o (withRule o r z) r z v
+  pub comes : (o : State) → o ≡ withCut (withCut m (lower (m .width) z)) (upper (m .width) z) → Sound o → (v : ℕ) → v ≡ nodeOf m (insert r l p n t) → Joined o (withRule o r z) r z v
   unfolding nodeOf sourceOf withRule
   comes o is O v e = record {
+    width = refl;
     less = O;
-    more = subst⁻¹ (λ (s : State). Sound (withRule s r z)) is (unfold leaves inserted phaseOf Fits in keeps m (insert r l p n t) S F ph ok);
+    more = subst⁻¹ (λ (s : State). Sound (withRule s r z)) is (unfold updated inserted FitsUpdate in keeps-update m (insert r l p n t) S F ph ok);
     slot = C .number;
     links = refl;
     free = ap (λ (s : State). live (ruleAt s r)) is ∙ (unfold withCut ruleAt in C .free);
     word = rule-new o r z (O .rules) (C .number);
     alive = live-of (rule-fits S F C);
-    node = ap₂ (λ (s : State) (x : ℕ). getD (s .link) x 0 / 1024) is (link-of (rule-fits S F C)) ∙ (unfold withCut in sym e);
+    node = rw is (unfold withCut in ap (λ (x : ℕ). getD (m .plan .link) x 0 / 1024) (link-of (rule-fits S F C)) ∙ sym e);
     others = rule-old o r z (O .rules) (C .number);
   }

@@ -19,10 +19,11 @@ use Rattle.meaning.proofs.walk.Tests.{round-is, circle-is}
 -- ---- the walk stays among the nodes
 
 module _ (m : State) (S : Sound m) (a : ℕ) where
-  pub closed-in : Closed (nextAt m a) (endOf m) (m .nodes)
+  pub closed-in : Closed (nextAt m a) (endOf m) (m .plan .nodes)
+  unfolding endOf
   closed-in v w h e =
       let g = goes-to (nextAt m a) (endOf m) v w .0 e in
-      omega (arith, g .2, S .ends (g .0) (taken-link m S v a (g .0) (g .1)) (omega (arith, g .2, g .3)))
+      omega (arith, g .2, S .laid .ends (g .0) (taken-link m S v a (g .0) (g .1)) (omega (arith, g .2, g .3)))
 
 -- ---- a place's tests
 
@@ -31,14 +32,14 @@ module _ (m : State) (S : Sound m) (a : ℕ) where
   pub loop-circle : loopsAt m a ≡ true → circleAt m a ≡ none → ⊥
   unfolding loopsAt circleAt
   loop-circle e f =
-      let r = any-some (goesRound (nextAt m a) (endOf m) (m .nodes)) (m .nodes) e in
+      let r = any-some (goesRound (nextAt m a) (endOf m) (m .plan .nodes)) (m .plan .nodes) e in
       let c = closed-in m S a in
-      let g = round-is (nextAt m a) (endOf m) (m .nodes) c (r .0) (r .1) .0 (r .2) in
-      let q = never-circle (nextAt m a) (endOf m) (m .nodes) c (r .0) (r .1) g in
-      lowest-none (onCircle (nextAt m a) (endOf m) (m .nodes)) (m .nodes) .0 f (q .0) (q .1)
-      (circle-is (nextAt m a) (endOf m) (m .nodes) c (q .0) (q .1) .1 (q .3))
+      let g = round-is (nextAt m a) (endOf m) (m .plan .nodes) c (r .0) (r .1) .0 (r .2) in
+      let q = never-circle (nextAt m a) (endOf m) (m .plan .nodes) c (r .0) (r .1) g in
+      lowest-none (onCircle (nextAt m a) (endOf m) (m .plan .nodes)) (m .plan .nodes) .0 f (q .0) (q .1)
+      (circle-is (nextAt m a) (endOf m) (m .plan .nodes) c (q .0) (q .1) .1 (q .3))
 
   -- the fate is the fate
-  pub fate-of : (v : ℕ) → v < m .nodes → IsFate (nextAt m a) (endOf m) v (fateOf m v a)
+  pub fate-of : (v : ℕ) → v < m .plan .nodes → IsFate (nextAt m a) (endOf m) v (fateOf m v a)
   unfolding fateOf
-  fate-of v h = fate-is (nextAt m a) (endOf m) (m .nodes) (closed-in m S a) v h
+  fate-of v h = fate-is (nextAt m a) (endOf m) (m .plan .nodes) (closed-in m S a) v h

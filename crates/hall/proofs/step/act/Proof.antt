@@ -2,7 +2,7 @@
 use mathlib.Core.Path.{sym, _∙_}
 use borrow.Author.Needs.{needs}
 use Rattle.lent.proofs.Steps.{reply-leaves}
-use Rattle.lent.proofs.Others.{question, told-leaves}
+use Rattle.lent.proofs.Others.{is-asked, told-leaves}
 use Rattle.hall.proofs.step.act.Statement.{statement}
 use Rattle.hall.proofs.step.act.Tie as tie
 
@@ -24,7 +24,7 @@ returns-3 c =
     let matched = replied .before .before .before .before .before .before in
     let call = matched .before .before in
     rw (c .only .ensures, replied .reply .ensures)
-    (reply-leaves _ _ _ _ (call .pre .0) (call .pre .1 .1) _ _ (question _ (matched .match .keys3) (sym (call .pre .1 .0) ∙ call .pre .1 .2)))
+    (reply-leaves _ _ _ _ (call .pre .0) (call .pre .1 .1) _ _ (is-asked _ (matched .match .keys3) (sym (call .pre .1 .0) ∙ call .pre .1 .2)))
 
 pub act-spec : {M : Type 1} → statement M
 act-spec =

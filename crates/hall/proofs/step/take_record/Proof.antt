@@ -35,7 +35,7 @@ returns-2 c =
 set-up-requires : tie.Need-set-up-requires
 set-up-requires c κs =
     let order = c .before .before .before in
-    held-whole _ _ _ (at-call (at-read (at-got order) .before) .pre) .sound .small
+    held-whole _ _ _ (at-call (at-read (at-got order) .before) .pre) .sound .laid .small
 
 returns-3 : tie.Need-returns-3
 returns-3 c =

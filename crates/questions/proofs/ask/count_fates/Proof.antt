@@ -28,7 +28,7 @@ divide-requires : tie.Need-divide-requires Inv-loop μ-loop
 divide-requires c κs =
     let call = c .before .before in
     let W = call .pre .0 in
-    (declared-of W, call .pre .1 .1, omega (arith, call .pre .1 .0, W .sound .small), refl)
+    (declared-of W, call .pre .1 .1, omega (arith, call .pre .1 .0, W .sound .laid .small), refl)
 
 loop-holds : tie.Need-loop-holds Inv-loop μ-loop
 loop-holds c = (omega arith, tally-none _ _)

@@ -14,7 +14,7 @@ follow-requires c κs =
     let s = c .before in
     let W = held-whole _ _ _ (s .pre .0) in
     let h = place-holds (W .sound .cuts) (s .args .a) (omega (arith, s .fits .a)) in
-    (rw (c .atom-of .ensures) (small-atom _ _ _ W _ (h .within)), omega (arith, s .pre .1, W .sound .small), W .sound .small, ends-of _ _ _ W)
+    (rw (c .atom-of .ensures) (small-atom _ _ _ W _ (h .within)), omega (arith, s .pre .1, W .sound .laid .small), W .sound .laid .small, ends-of _ _ _ W)
 
 returns : tie.Need-returns
 returns c =

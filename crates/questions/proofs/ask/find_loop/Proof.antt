@@ -75,7 +75,7 @@ look-requires : tie.Need-look-requires Inv-loop μ-loop Inv-search μ-search
 look-requires c κs =
     let inner = c .before in
     let W = at-call (at-outer inner) .pre in
-    (small (inner .before .before), omega (arith, W .sound .small), W .sound .small, ends-of _ _ _ W, inner .loop .inv .2)
+    (small (inner .before .before), omega (arith, W .sound .laid .small), W .sound .laid .small, ends-of _ _ _ W, inner .loop .inv .2)
 
 mul-t22 : tie.Need-mul-t22 Inv-loop μ-loop Inv-search μ-search
 mul-t22 c = omega (arith, at-call (at-outer (c .before .before .before .before)) .pre .sound .cuts .room)
@@ -89,7 +89,7 @@ loop-less c =
     let inner = c .before .before .before .before .before .before in
     let W = at-call (at-outer inner) .pre in
     let q = rw (c .before .before .more .given .1) at (c .before .before .before .before .look .ensures) in
-    let h = above _ _ _ _ (omega (arith, W .sound .small)) (inner .loop .inv .1) (q .1) (q .2) (c .first-on2 .ensures .2) in
+    let h = above _ _ _ _ (omega (arith, W .sound .laid .small)) (inner .loop .inv .1) (q .1) (q .2) (c .first-on2 .ensures .2) in
     omega arith
 
 loop-again : tie.Need-loop-again Inv-loop μ-loop Inv-search μ-search

@@ -21,12 +21,12 @@ places-requires c κs = c .pre .0 .sound .cuts .room
 shr-if1 : tie.Need-shr-if1 Inv-loop μ-loop
 shr-if1 c =
     let s = c .before .before in
-    omega (arith, s .pre .1, s .pre .0 .sound .small)
+    omega (arith, s .pre .1, s .pre .0 .sound .laid .small)
 
 returns : tie.Need-returns Inv-loop μ-loop
 returns c =
     let s = c .before .before .before in
-    sym (no-reach _ _ _ (s .pre .0) _ _ _ (c .before .toward-walks .ensures) (omega (arith, s .pre .1, s .pre .0 .sound .small)) (c .if1 .taken))
+    sym (no-reach _ _ _ (s .pre .0) _ _ _ (c .before .toward-walks .ensures) (omega (arith, s .pre .1, s .pre .0 .sound .laid .small)) (c .if1 .taken))
 
 loop-holds : tie.Need-loop-holds Inv-loop μ-loop
 loop-holds c = (omega arith, λ q l. absurd (omega arith))
@@ -36,7 +36,7 @@ comes-to-requires c κs =
     let s = c .before .before .before .before in
     let W = s .before .before .pre .0 in
     let q = rw (← c .atom-at .ensures) at (small-atom _ _ _ W _ (rw (s .before .places .ensures) at (c .before .loop-test .taken))) in
-    (q, omega (arith, s .before .before .pre .1, W .sound .small), W .sound .small, ends-of _ _ _ W, s .toward-walks .ensures .each _ (together _ _ _ W) _ q)
+    (q, omega (arith, s .before .before .pre .1, W .sound .laid .small), W .sound .laid .small, ends-of _ _ _ W, s .toward-walks .ensures .each _ (together _ _ _ W) _ q)
 
 returns-2 : tie.Need-returns-2 Inv-loop μ-loop
 returns-2 c =

@@ -47,7 +47,7 @@ returns-2 c =
     let d = a .before .before in
     let s = d .before .before .before .before in (
       split-made (split d) (k .before .before .insert-cut .ensures) (k .insert-number .ensures),
-      λ m ec ed en W. made-whole m (split d) ec ed en (s .pre .2) (rw (a .atom-at .ensures) at (c .give .ensures)) W,
+      λ m ec ed en W. made-whole m (split d) ec ed en (s .pre .0) (s .pre .2) (rw (a .atom-at .ensures) at (c .give .ensures)) W,
     )
 
 pub make-boundary-spec : {M : Type 1} → statement M

@@ -4,6 +4,7 @@ use Prim.Native.Nat.{_-_, _≤_}
 use native.Mathlib.Omega.{arith}
 use lib.ListN.{getD}
 use borrow.Author.Needs.{needs}
+use Rattle.meaning.specs.Hall.{ipv4}
 use Rattle.meaning.specs.Rule.{rank, covers}
 use Rattle.tables.specs.Gathered.{bestIn}
 use Rattle.tables.proofs.Rules.{best-in-none, best-in-more}
@@ -11,7 +12,7 @@ use Rattle.tables.proofs.rule.best_among.Statement.{statement}
 use Rattle.tables.proofs.rule.best_among.Tie as tie
 
 abbrev Inv-loop : tie.InvT-loop
-Inv-loop rule among count a best₀ j₀ best j = (j ≤ count) × (best ≡ bestIn (λ k. covers (getD rule k 0) a) (λ k. rank (getD rule k 0)) among j) × (best ≤ 256)
+Inv-loop rule among count a best₀ j₀ best j = (j ≤ count) × (best ≡ bestIn (λ k. covers ipv4 (getD rule k 0) a) (λ k. rank ipv4 (getD rule k 0)) among j) × (best ≤ 256)
 
 abbrev μ-loop : tie.MeasureT-loop
 μ-loop rule among count a best₀ j₀ best j = count - j

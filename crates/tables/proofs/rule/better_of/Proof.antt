@@ -6,18 +6,18 @@ use Rattle.tables.proofs.rule.better_of.Statement.{statement}
 use Rattle.tables.proofs.rule.better_of.Tie as tie
 
 returns : tie.Need-returns
-returns c = (keep-out _ _ _ _ (covers-below _ _ _ (c .before .lower-of .ensures .0) (c .if1 .taken)), search needs)
+returns c = (keep-out _ _ _ _ (covers-below _ _ _ _ (c .before .lower-of .ensures .0) (c .if1 .taken)), search needs)
 
 returns-2 : tie.Need-returns-2
 returns-2 c =
     let l = c .before .before .before in
-    (keep-out _ _ _ _ (covers-past _ _ _ _ (l .lower-of .ensures .0) (c .before .upper-of .ensures .0) (c .if2 .taken)), search needs)
+    (keep-out _ _ _ _ (covers-past _ _ _ _ _ (l .lower-of .ensures .0) (c .before .upper-of .ensures .0) (c .if2 .taken)), search needs)
 
 returns-3 : tie.Need-returns-3
 returns-3 c =
     let u = c .before .before in
     let l = u .before .before in
-    (take-first _ _ _ _ (covers-between _ _ _ _ (l .lower-of .ensures .0) (u .upper-of .ensures .0) (u .before .if1 .left) (c .before .if2 .left)) (c .if3 .taken), search needs)
+    (take-first _ _ _ _ (covers-between _ _ _ _ _ (l .lower-of .ensures .0) (u .upper-of .ensures .0) (u .before .if1 .left) (c .before .if2 .left)) (c .if3 .taken), search needs)
 
 returns-4 : tie.Need-returns-4
 returns-4 c =
@@ -25,7 +25,7 @@ returns-4 c =
     let n = r .before .before in
     let u = n .before .before in
     let l = u .before .before in
-    let in-it = covers-between _ _ _ _ (l .lower-of .ensures .0) (u .upper-of .ensures .0) (u .before .if1 .left) (n .before .if2 .left) in
+    let in-it = covers-between _ _ _ _ _ (l .lower-of .ensures .0) (u .upper-of .ensures .0) (u .before .if1 .left) (n .before .if2 .left) in
     (higher-by _ _ _ _ _ _ (r .rank-of .ensures .0) (c .before .rank-of2 .ensures .0) in-it (n .if3 .left) (c .if4 .taken), search needs)
 
 returns-5 : tie.Need-returns-5
@@ -34,7 +34,7 @@ returns-5 c =
     let n = r .before .before in
     let u = n .before .before in
     let l = u .before .before in
-    let in-it = covers-between _ _ _ _ (l .lower-of .ensures .0) (u .upper-of .ensures .0) (u .before .if1 .left) (n .before .if2 .left) in
+    let in-it = covers-between _ _ _ _ _ (l .lower-of .ensures .0) (u .upper-of .ensures .0) (u .before .if1 .left) (n .before .if2 .left) in
     (lower-by _ _ _ _ _ _ (r .rank-of .ensures .0) (c .before .rank-of2 .ensures .0) in-it (n .if3 .left) (c .if4 .left), search needs)
 
 pub better-of-spec : {M : Type 1} → statement M

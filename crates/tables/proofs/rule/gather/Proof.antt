@@ -3,6 +3,7 @@ use mathlib.Core.Path.{_≡_}
 use Prim.Native.Nat.{_+_, _-_, _%_, _≤_}
 use native.Mathlib.Omega.{arith}
 use borrow.Author.Needs.{needs}
+use Rattle.meaning.specs.Hall.{ipv4}
 use Rattle.tables.specs.Gathered.{Marks, Gathering}
 use Rattle.tables.proofs.Rules.{gathered-none, gathered-to}
 use Rattle.tables.proofs.rule.gather.Statement.{statement}
@@ -10,7 +11,7 @@ use Rattle.tables.proofs.rule.gather.Tie as tie
 
 abbrev Inv-loop : tie.InvT-loop
 Inv-loop link rule v w among₀ here count₀ i₀ among count i =
-    (i ≤ 256) × (i % 4 ≡ 0) × Marks link v here × Gathering link rule v w among count i
+    (i ≤ 256) × (i % 4 ≡ 0) × Marks link v here × Gathering ipv4 link rule v w among count i
 
 abbrev μ-loop : tie.MeasureT-loop
 μ-loop link rule v w among₀ here count₀ i₀ among count i = 256 - i

@@ -4,12 +4,13 @@ use Prim.Native.Nat.{_-_, _≤_}
 use native.Mathlib.Omega.{arith}
 use borrow.Author.Needs.{needs}
 use borrow.Author.Tests.{leb-true}
+use Rattle.meaning.specs.Hall.{ipv4}
 use Rattle.tables.proofs.Rules.{Lacks, lacks-none, lacks-more}
 use Rattle.tables.proofs.rule.lacks_rank.Statement.{statement}
 use Rattle.tables.proofs.rule.lacks_rank.Tie as tie
 
 abbrev Inv-loop : tie.InvT-loop
-Inv-loop rule w all₀ i₀ all i = (i ≤ 256) × Lacks rule w all i
+Inv-loop rule w all₀ i₀ all i = (i ≤ 256) × Lacks ipv4 rule w all i
 
 abbrev μ-loop : tie.MeasureT-loop
 μ-loop rule w all₀ i₀ all i = 256 - i

@@ -6,7 +6,7 @@ use Rattle.tables.proofs.rule.stands_on.Statement.{statement}
 use Rattle.tables.proofs.rule.stands_on.Tie as tie
 
 returns : tie.Need-returns
-returns c = live-marked _ (search needs) _ (now (c .before .before .args .here)) (c .before .link-of .ensures .0)
+returns c = live-marked _ _ (search needs) _ (now (c .before .before .args .here)) (c .before .link-of .ensures .0)
 
 pub stands-on-spec : {M : Type 1} → statement M
 stands-on-spec = tie.close (tie.spec

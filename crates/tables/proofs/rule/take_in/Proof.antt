@@ -10,7 +10,7 @@ returns : tie.Need-returns
 returns c =
     let o = c .before .before in
     let s = o .before .before in
-    (search needs, λ link v m g. gathered-take g (search needs) (sym (stands-marked link v _ _ _ m (s .stands-on .ensures)) ∙ o .before .if1 .taken))
+    (search needs, λ link v m g. gathered-take g (search needs) (sym (stands-marked _ link v _ _ _ m (s .stands-on .ensures)) ∙ o .before .if1 .taken))
 
 returns-2 : tie.Need-returns-2
 returns-2 c = (search needs, λ link v m g. gathered-skip g (λ _ e. true≢false (sym e ∙ sym (c .before .overlaps .ensures) ∙ c .if2 .left)))
@@ -18,7 +18,7 @@ returns-2 c = (search needs, λ link v m g. gathered-skip g (λ _ e. true≢fals
 returns-3 : tie.Need-returns-3
 returns-3 c = (
   search needs,
-  λ link v m g. gathered-skip g (λ e _. true≢false (sym e ∙ sym (stands-marked link v _ _ _ m (c .before .stands-on .ensures)) ∙ c .if1 .left)),
+  λ link v m g. gathered-skip g (λ e _. true≢false (sym e ∙ sym (stands-marked _ link v _ _ _ m (c .before .stands-on .ensures)) ∙ c .if1 .left)),
 )
 
 pub take-in-spec : {M : Type 1} → statement M

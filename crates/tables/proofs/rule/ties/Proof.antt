@@ -6,6 +6,7 @@ use native.Mathlib.Omega.{arith}
 use lib.ListN.{getD}
 use denote.Ref.{now}
 use borrow.Author.Needs.{needs}
+use Rattle.meaning.specs.Hall.{ipv4}
 use Rattle.meaning.specs.Search.{anyBelow}
 use Rattle.meaning.proofs.base.Search.{any-true, any-none, any-more}
 use Rattle.tables.specs.Gathered.{tying}
@@ -14,13 +15,13 @@ use Rattle.tables.proofs.rule.ties.Statement.{statement}
 use Rattle.tables.proofs.rule.ties.Tie as tie
 
 abbrev Inv-loop : tie.InvT-loop
-Inv-loop link rule v w i₀ i = (i ≤ 256) × (anyBelow i (λ k. tying link v w (getD rule k 0)) ≡ false)
+Inv-loop link rule v w i₀ i = (i ≤ 256) × (anyBelow i (λ k. tying ipv4 link v w (getD rule k 0)) ≡ false)
 
 abbrev μ-loop : tie.MeasureT-loop
 μ-loop link rule v w i₀ i = 256 - i
 
 returns : tie.Need-returns Inv-loop μ-loop
-returns c = ties-nowhere _ (now (c .before .before .args .rule)) _ _ (c .before .lacks-rank .ensures (c .if1 .taken))
+returns c = ties-nowhere _ _ (now (c .before .before .args .rule)) _ _ (c .before .lacks-rank .ensures (c .if1 .taken))
 
 loop-holds : tie.Need-loop-holds Inv-loop μ-loop
 loop-holds c = (search needs, any-none _)

@@ -8,17 +8,17 @@ use Rattle.tables.proofs.rule.ties_with.Tie as tie
 returns : tie.Need-returns
 returns c =
     let b = c .before in
-    ties-apart _ _ _ _ _ _ (b .before .rank-of .ensures .0) (b .rank-of2 .ensures .0) (c .if1 .taken)
+    ties-apart _ _ _ _ _ _ _ (b .before .rank-of .ensures .0) (b .rank-of2 .ensures .0) (c .if1 .taken)
 
 returns-2 : tie.Need-returns-2
 returns-2 c =
     let s = c .before .before in
     let b = s .before .before in
     c .overlaps .ensures
-    ∙ ties-if _ _ _ _ _ _ (b .before .rank-of .ensures .0) (b .rank-of2 .ensures .0) (s .before .if1 .left) (sym (s .stands-at .ensures) ∙ c .before .if2 .taken)
+    ∙ ties-if _ _ _ _ _ _ _ (b .before .rank-of .ensures .0) (b .rank-of2 .ensures .0) (s .before .if1 .left) (sym (s .stands-at .ensures) ∙ c .before .if2 .taken)
 
 returns-3 : tie.Need-returns-3
-returns-3 c = ties-elsewhere _ _ _ _ (sym (c .before .stands-at .ensures) ∙ c .if2 .left)
+returns-3 c = ties-elsewhere _ _ _ _ _ (sym (c .before .stands-at .ensures) ∙ c .if2 .left)
 
 pub ties-with-spec : {M : Type 1} → statement M
 ties-with-spec =

@@ -1,14 +1,13 @@
 -- `tables::take::take_insert` meets its contract: an insert is refused as its checks say, or leaves what the update leaves. Assumes nothing.
-use mathlib.Core.Path.{_≡_, sym, ap, _∙_}
+use mathlib.Core.Path.{_≡_, refl, sym, ap, _∙_}
 use mathlib.Core.Option.{none}
 use borrow.Author.Needs.{needs}
 use denote.Ref.{now}
-use Rattle.meaning.specs.declared.Record.the-variants.{Insert as insertion}
-use Rattle.meaning.specs.Records.{phaseOf}
-use Rattle.meaning.specs.Step.{checked, refusal}
+use Rattle.meaning.specs.Records.{insert, sortOf, phaseOf}
+use Rattle.meaning.specs.Step.{checked, updateRefusal, refusal}
 use Rattle.meaning.specs.Box.{stateOf}
 use Rattle.lent.proofs.Labelled.{held-whole}
-use Rattle.lent.proofs.Steps.{short-leaves, disorder-leaves, order-leaves, turned-takes, insert-takes}
+use Rattle.lent.proofs.Steps.{short-leaves, disorder-leaves, order-leaves, turned-takes, update-takes}
 use Rattle.tables.proofs.take.take_insert.Statement.{statement}
 use Rattle.tables.proofs.take.take_insert.Tie as tie
 
@@ -22,7 +21,7 @@ at-call order = order .before .before .before .before
 -- the insert is not refused once its checks have passed
 passes : (c : tie.After-enum-told)
     → let x = at-call (at-order c) .args in
-    refusal (stateOf (x .h) (now (x .link)) (now (x .rule)) (now (x .cut)) (now (x .number))) (insertion (x .r) (x .x .link) (x .x .prefix) (x .x .length) (x .x .priority)) ≡ none
+    updateRefusal (stateOf (x .h) (now (x .link)) (now (x .rule)) (now (x .cut)) (now (x .number))) (insert (x .r) (x .x .link) (x .x .prefix) (x .x .length) (x .x .priority)) ≡ none
 unfolding checked
 passes c = sym (c .before .before .check-insert .ensures _) ∙ ap checked (c .enum-told .given .1)
 
@@ -32,14 +31,14 @@ returns c =
     rw (c .refused .ensures) (short-leaves _ _ _ _ (short .before .before .pre) _ (short .if1 .taken))
 
 returns-2 : tie.Need-returns-2
-unfolding phaseOf
+unfolding sortOf phaseOf
 returns-2 c =
     let disorder = c .before in
     let long = disorder .before .before in
     rw (c .refused2 .ensures) (disorder-leaves _ _ _ _ (long .before .before .pre) (long .if1 .left) _ _ (disorder .if2 .taken))
 
 check-insert-requires : tie.Need-check-insert-requires
-check-insert-requires c κs = let W = held-whole _ _ _ (at-call (c .before .before) .pre) in (W .sound .cuts, W .sound .few)
+check-insert-requires c κs = let W = held-whole _ _ _ (at-call (c .before .before) .pre) in (W .sound .cuts, W .sound .laid .few)
 
 insert-requires : tie.Need-insert-requires
 insert-requires c κs =
@@ -48,7 +47,7 @@ insert-requires c κs =
     (held-whole _ _ _ (at-call order .pre), (order .if2 .left, passes passed, order .before .before .if1 .left))
 
 returns-3 : tie.Need-returns-3
-unfolding checked phaseOf
+unfolding checked sortOf phaseOf refusal
 returns-3 c =
     let failed = c .before .before in
     let check = failed .before .before in
@@ -58,12 +57,12 @@ returns-3 c =
     ∙ order-leaves _ _ (order .before .before .if1 .left) _ _ (order .if2 .left))
 
 returns-4 : tie.Need-returns-4
-unfolding phaseOf
+unfolding sortOf phaseOf
 returns-4 c =
     let updated = c .before .before .before .before .before in
     let passed = updated .before .before .before .before .before .before .before in
     let order = at-order passed in
-    insert-takes _ _ _ _ _ _ _ _ _ _ _ _ (c .before .known .ensures) (updated .insert .ensures .1) (passes passed) _ (updated .insert .ensures .0)
+    update-takes _ _ _ refl _ _ _ _ _ _ (c .before .known .ensures) (updated .insert .ensures .1) (passes passed) _ (updated .insert .ensures .0)
     ∙ order-leaves _ _ (order .before .before .if1 .left) _ _ (order .if2 .left)
 
 pub take-insert-spec : {M : Type 1} → statement M

@@ -3,12 +3,11 @@ use mathlib.Core.Path.{_≡_, refl, sym, ap, _∙_}
 use mathlib.Core.Option.{none}
 use borrow.Author.Needs.{needs}
 use denote.Ref.{now}
-use Rattle.meaning.specs.declared.Record.the-variants.{Remove as removal}
-use Rattle.meaning.specs.Records.{phaseOf}
-use Rattle.meaning.specs.Step.{checked, refusal}
+use Rattle.meaning.specs.Records.{remove, sortOf, phaseOf}
+use Rattle.meaning.specs.Step.{checked, updateRefusal, refusal}
 use Rattle.meaning.specs.Box.{stateOf}
 use Rattle.lent.proofs.Labelled.{held-whole}
-use Rattle.lent.proofs.Steps.{short-leaves, disorder-leaves, order-leaves, turned-takes, remove-takes}
+use Rattle.lent.proofs.Steps.{short-leaves, disorder-leaves, order-leaves, turned-takes, update-takes}
 use Rattle.tables.proofs.take.take_remove.Statement.{statement}
 use Rattle.tables.proofs.take.take_remove.Tie as tie
 
@@ -22,7 +21,7 @@ at-call order = order .before .before .before .before
 -- the remove is not refused once its checks have passed
 passes : (c : tie.After-enum-told)
     → let x = at-call (at-order c) .args in
-    refusal (stateOf (x .h) (now (x .link)) (now (x .rule)) (now (x .cut)) (now (x .number))) (removal (x .r)) ≡ none
+    updateRefusal (stateOf (x .h) (now (x .link)) (now (x .rule)) (now (x .cut)) (now (x .number))) (remove (x .r)) ≡ none
 unfolding checked
 passes c = sym (c .before .before .check-remove .ensures _ refl) ∙ ap checked (c .enum-told .given .1)
 
@@ -32,7 +31,7 @@ returns c =
     rw (c .refused .ensures) (short-leaves _ _ _ _ (short .before .before .pre) _ (short .if1 .taken))
 
 returns-2 : tie.Need-returns-2
-unfolding phaseOf
+unfolding sortOf phaseOf
 returns-2 c =
     let disorder = c .before in
     let long = disorder .before .before in
@@ -45,7 +44,7 @@ remove-requires c κs =
     (held-whole _ _ _ (at-call order .pre), (order .if2 .left, passes passed, order .before .before .if1 .left))
 
 returns-3 : tie.Need-returns-3
-unfolding checked phaseOf
+unfolding checked sortOf phaseOf refusal
 returns-3 c =
     let failed = c .before .before in
     let check = failed .before .before in
@@ -55,12 +54,12 @@ returns-3 c =
     ∙ order-leaves _ _ (order .before .before .if1 .left) _ _ (order .if2 .left))
 
 returns-4 : tie.Need-returns-4
-unfolding phaseOf
+unfolding sortOf phaseOf
 returns-4 c =
     let updated = c .before .before .before .before .before in
     let passed = updated .before .before .before .before .before in
     let order = at-order passed in
-    remove-takes _ _ _ _ _ _ _ _ (c .before .known .ensures) (updated .remove .ensures .1) (passes passed) _ (updated .remove .ensures .0)
+    update-takes _ _ _ refl _ _ _ _ _ _ (c .before .known .ensures) (updated .remove .ensures .1) (passes passed) _ (updated .remove .ensures .0)
     ∙ order-leaves _ _ (order .before .before .if1 .left) _ _ (order .if2 .left)
 
 pub take-remove-spec : {M : Type 1} → statement M

@@ -63,7 +63,7 @@ tried s number =
       low = d .if1 .left;
       free = f .if2 .left;
       known = l .if3 .left;
-      fits = record { link = omega (arith, l .if3 .left, d .before .pre .1); prefix = omega (arith, sized); long = n .if4 .left; priority = omega (arith, sized) };
+      fits = record { wide = omega arith; link = omega (arith, l .if3 .left, d .before .pre .1); prefix = omega (arith, sized); long = n .if4 .left; priority = omega (arith, sized) };
       whole = sym (g .is-ragged .ensures) ∙ k .before .before .if5 .left;
       source = s .before .source-of .ensures .0;
       word = k .before .pack .ensures;

@@ -5,13 +5,12 @@ use mathlib.Core.Bool.{false}
 use Prim.Native.Nat.{ℕ, _+_, _*_, _^_, _<_}
 use native.Mathlib.Omega.{arith}
 use denote.Ref.{now}
-use Rattle.meaning.specs.Hall.{State, sourceOf}
+use Rattle.meaning.specs.Hall.{ipv4, State, sourceOf}
 use Rattle.meaning.specs.Rule.{ruleWord, linkOf, rank, lower, upper}
-use Rattle.meaning.specs.Atoms.{placeOf, isCut, withCut}
+use Rattle.meaning.specs.Atoms.{placeOf, withCut, isBoundary}
 use Rattle.meaning.specs.Box.{stateOf}
-use Rattle.meaning.specs.declared.Record.{Record}
-use Rattle.meaning.specs.declared.Record.the-variants.{Insert as insertion}
-use Rattle.meaning.specs.Step.{withRule, inserted, leaves, nodeOf}
+use Rattle.meaning.specs.Records.{Update, insert}
+use Rattle.meaning.specs.Step.{withRule, inserted, updated, nodeOf}
 use Rattle.meaning.proofs.records.Fields.{Sized}
 use Rattle.meaning.proofs.rules.Words.{RuleFits, link-of}
 use Rattle.meaning.proofs.records.Checks.{Clear, clear}
@@ -31,13 +30,13 @@ module _ (s : tie.Start) where
   abbrev state : State
   state = stateOf (s .args .h) (now (s .args .link)) (now (s .args .rule)) (now (s .args .cut)) (now (s .args .number))
 
-  abbrev asked : Record
-  asked = insertion (s .args .r) (s .args .x .link) (s .args .x .prefix) (s .args .x .length) (s .args .x .priority)
+  abbrev asked : Update
+  asked = insert (s .args .r) (s .args .x .link) (s .args .x .prefix) (s .args .x .length) (s .args .x .priority)
 
   abbrev word : ℕ
-  word = ruleWord (s .args .x .link) (s .args .x .prefix) (s .args .x .length) (s .args .x .priority)
+  word = ruleWord ipv4 (s .args .x .link) (s .args .x .prefix) (s .args .x .length) (s .args .x .priority)
 
-  sized : Sized (s .args .x .link) (s .args .x .prefix) (s .args .x .priority)
+  sized : Sized ipv4 (s .args .x .link) (s .args .x .prefix) (s .args .x .priority)
   sized = record { link = omega arith; prefix = omega arith; priority = omega arith }
 
   passed : Clear state (s .args .r) (s .args .x .link) (s .args .x .prefix) (s .args .x .length) (s .args .x .priority)
@@ -46,13 +45,13 @@ module _ (s : tie.Start) where
   room : RoomForEnds state word
   room = room-for state (s .pre .0 .sound) sized passed
 
-  fits : RuleFits (s .args .x .link) (s .args .x .prefix) (s .args .x .length) (s .args .x .priority)
+  fits : RuleFits ipv4 (s .args .x .link) (s .args .x .prefix) (s .args .x .length) (s .args .x .priority)
   fits = rule-fits (s .pre .0 .sound) sized passed
 
   mine-fits : s .args .x .link * 512 + s .args .r + 1 < 2 ^ 16
   mine-fits = omega (arith, passed .number, fits .link)
 
-  mine-is : s .args .x .link * 512 + s .args .r + 1 ≡ linkOf word * 512 + (s .args .r + 1)
+  mine-is : s .args .x .link * 512 + s .args .r + 1 ≡ linkOf ipv4 word * 512 + (s .args .r + 1)
   mine-is = omega (arith, link-of fits)
 
 -- ---- the rule's ends
@@ -61,11 +60,11 @@ module _ (c : tie.After-upper-of) where
   abbrev at-call : tie.Start
   at-call = c .before .before .before .before .before .before .before
 
-  low-is : c .before .lower-of .result ≡ lower (word at-call)
-  low-is = c .before .lower-of .ensures .0 ∙ ap lower (c .before .before .pack .ensures)
+  low-is : c .before .lower-of .result ≡ lower ipv4 (word at-call)
+  low-is = c .before .lower-of .ensures .0 ∙ ap (lower ipv4) (c .before .before .pack .ensures)
 
-  high-is : c .upper-of .result ≡ upper (word at-call)
-  high-is = c .upper-of .ensures .0 ∙ ap upper (c .before .before .pack .ensures)
+  high-is : c .upper-of .result ≡ upper ipv4 (word at-call)
+  high-is = c .upper-of .ensures .0 ∙ ap (upper ipv4) (c .before .before .pack .ensures)
 
 -- ---- the lower end is a boundary
 
@@ -76,7 +75,7 @@ module _ (c : tie.After-make-boundary) where
   abbrev one : State
   one = cutAs (state (at-call at-ends)) (c .make-boundary .last .0) (c .make-boundary .last .1 .0) (c .make-boundary .result)
 
-  one-is : one ≡ withCut (state (at-call at-ends)) (lower (word (at-call at-ends)))
+  one-is : one ≡ withCut (state (at-call at-ends)) (lower ipv4 (word (at-call at-ends)))
   one-is = split-is (state (at-call at-ends)) _ (c .make-boundary .ensures .0) ∙ ap (withCut (state (at-call at-ends))) (low-is at-ends)
 
   one-whole : Whole one (c .make-boundary .last .1 .1 .0) (c .make-boundary .last .1 .1 .1 .0)
@@ -96,7 +95,7 @@ module _ (c : tie.After-make-boundary2) where
   abbrev two : State
   two = cutAs (state s) (c .make-boundary2 .last .0) (c .make-boundary2 .last .1 .0) (c .make-boundary2 .result)
 
-  two-is : two ≡ withCut (withCut (state s) (lower (word s))) (upper (word s))
+  two-is : two ≡ withCut (withCut (state s) (lower ipv4 (word s))) (upper ipv4 (word s))
   two-is = split-is (one at-one) _ (c .make-boundary2 .ensures .0) ∙ ap₂ withCut (one-is at-one) (high-is (at-ends at-one))
 
   two-whole : Whole two (c .make-boundary2 .last .1 .1 .0) (c .make-boundary2 .last .1 .1 .1 .0)
@@ -114,8 +113,8 @@ module _ (c : tie.After-make-boundary2) where
   joined : Joined two (withRule two (s .args .r) (word s)) (s .args .r) (word s) node
   joined = comes (state s) (s .args .r) _ _ _ _ (s .pre .0 .sound) (sized s) (s .pre .1 .0) (s .pre .1 .1) two two-is (two-whole .sound) node node-is
 
-  left-is : withRule two (s .args .r) (word s) ≡ leaves (state s) (asked s)
-  unfolding leaves inserted
+  left-is : withRule two (s .args .r) (word s) ≡ updated (state s) (asked s)
+  unfolding updated inserted
   left-is = ap (λ (m : State). withRule m (s .args .r) (word s)) two-is
 
 -- ---- the places between them
@@ -124,10 +123,10 @@ module _ (c : tie.After-place-of2) where
   abbrev at-two : tie.After-make-boundary2
   at-two = c .before .before .before .before
 
-  spans : Spans (two at-two .cut) (two at-two .atoms) (word (s at-two)) (c .before .before .place-of .result .0) (c .place-of2 .result .0)
+  spans : Spans ipv4 (two at-two .atoms .cut) (two at-two .atoms .count) (word (s at-two)) (c .before .before .place-of .result .0) (c .place-of2 .result .0)
   unfolding withRule
   spans =
-      let at = placeOf (two at-two .cut) (two at-two .atoms) in
+      let at = placeOf (two at-two .atoms .cut) (two at-two .atoms .count) in
       let ends = at-ends (at-one at-two) in
       rule-spans (joined at-two) (c .before .before .place-of .ensures .0 ∙ ap at (low-is ends)) (c .place-of2 .ensures .0 ∙ ap at (high-is ends))
 
@@ -152,7 +151,7 @@ make-boundary-requires c κs =
       S .cuts,
       S .numbers,
       omega (arith, low-is e, below),
-      λ h. room-lower (state s) S (word s) (room s) (sym (ap (isCut (state s .cut) (state s .atoms)) (low-is e)) ∙ h),
+      λ h. room-lower (state s) S (word s) (room s) (sym (ap (isBoundary (state s)) (low-is e)) ∙ h),
       s .pre .0 .owned .long,
     )
 
@@ -161,12 +160,12 @@ make-boundary-requires-2 c κs =
     let b = c .before .before .before .before in
     let e = at-ends b in
     let s = at-call e in
-    let free = subst⁻¹ (λ (m : State). isCut (m .cut) (m .atoms) (upper (word s)) ≡ false → m .atoms < 512) (one-is b) (room-upper (state s) (s .pre .0 .sound) (word s) (room s)) in
+    let free = subst⁻¹ (λ (m : State). isBoundary m (upper ipv4 (word s)) ≡ false → m .atoms .count < 512) (one-is b) (room-upper (state s) (s .pre .0 .sound) (word s) (room s)) in
     let below = room s .upper-top in (
       one-whole b .sound .cuts,
       one-whole b .sound .numbers,
       omega (arith, high-is e, below),
-      λ h. free (sym (ap (isCut (one b .cut) (one b .atoms)) (high-is e)) ∙ h),
+      λ h. free (sym (ap (isBoundary (one b)) (high-is e)) ∙ h),
       one-whole b .owned .long,
     )
 
@@ -212,10 +211,10 @@ returns c =
     let b = at-two p in
     let r = s b .args .r in
     let w = at-ends (at-one b) .before .before .pack .ensures in
-    let k = c .before .before .before .before .before .before .before .before .before .rank-of .ensures .0 ∙ ap rank w in (
+    let k = c .before .before .before .before .before .before .before .before .before .rank-of .ensures .0 ∙ ap (rank ipv4) w in (
       ap (withRule (two b) r) w ∙ left-is b,
       listed-as (left-is b) (node-is b)
-          (taken-in (two b) r (word (s b)) (node b) _ _ (two-whole b) (spans p) _ (mine-is (s b)) (joined b) (state (s b)) refl refl _ k (c .before .before .take-over .ensures)),
+          (taken-in (two b) r (word (s b)) (node b) _ _ (two-whole b) (spans p) _ (mine-is (s b)) (joined b) (state (s b)) (record { width = refl; rule = refl; link = refl }) _ k (c .before .before .take-over .ensures)),
     )
 
 pub insert-spec : {M : Type 1} → statement M

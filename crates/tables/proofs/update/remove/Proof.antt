@@ -5,13 +5,13 @@ use Prim.Native.Nat.{ℕ, _+_, _*_, _/_}
 use native.Mathlib.Omega.{arith}
 use lib.ListN.{getD}
 use denote.Ref.{now}
-use Rattle.meaning.specs.Hall.{State, sourceOf}
+use Rattle.meaning.specs.Hall.{ipv4, State, sourceOf}
 use Rattle.meaning.specs.Rule.{linkOf}
 use Rattle.meaning.specs.Winner.{ruleAt}
 use Rattle.meaning.specs.Atoms.{placeOf}
 use Rattle.meaning.specs.Box.{stateOf}
-use Rattle.meaning.specs.declared.Record.the-variants.{Remove as removal}
-use Rattle.meaning.specs.Step.{withRule, leaves, nodeOf}
+use Rattle.meaning.specs.Records.{remove}
+use Rattle.meaning.specs.Step.{withRule, updated, nodeOf}
 use Rattle.meaning.proofs.sound.OneRule.{Joined, goes}
 use Rattle.lent.proofs.OwnerRules.{Spans, rule-spans, node-small}
 use Rattle.tables.proofs.Updated.{ready, listed-as, taken-out}
@@ -29,7 +29,7 @@ module _ (s : tie.Start) where
   abbrev word : ℕ
   word = ruleAt state (s .args .r)
 
-  going : (v : ℕ) → v ≡ nodeOf state (removal (s .args .r)) → Joined (withRule state (s .args .r) 0) state (s .args .r) word v
+  going : (v : ℕ) → v ≡ nodeOf state (remove (s .args .r)) → Joined (withRule state (s .args .r) 0) state (s .args .r) word v
   going = goes state (s .args .r) (s .pre .0 .sound) (s .pre .1 .0) (s .pre .1 .1)
 
 -- ---- its node and its places
@@ -41,14 +41,14 @@ module _ (c : tie.After-source-of) where
   abbrev node : ℕ
   node = c .source-of .result
 
-  node-is : node ≡ nodeOf (state s) (removal (s .args .r))
+  node-is : node ≡ nodeOf (state s) (remove (s .args .r))
   unfolding nodeOf sourceOf ruleAt
   node-is = c .source-of .ensures .0 ∙ ap (λ (l : ℕ). getD (now (s .args .link)) l 0 / 1024) (c .before .before .link-of .ensures .0)
 
   joined : Joined (withRule (state s) (s .args .r) 0) (state s) (s .args .r) (word s) node
   joined = going s node node-is
 
-  gone-is : c .before .before .link-of .result * 512 + s .args .r + 1 ≡ linkOf (word s) * 512 + (s .args .r + 1)
+  gone-is : c .before .before .link-of .result * 512 + s .args .r + 1 ≡ linkOf ipv4 (word s) * 512 + (s .args .r + 1)
   unfolding ruleAt
   gone-is = omega (arith, c .before .before .link-of .ensures .0)
 
@@ -56,7 +56,7 @@ module _ (c : tie.After-place-of2) where
   abbrev at-node : tie.After-source-of
   at-node = c .before .before .before .before .before
 
-  spans : Spans (now (s at-node .args .cut)) (s at-node .args .h .atoms) (word (s at-node)) (c .before .before .place-of .result .0) (c .place-of2 .result .0)
+  spans : Spans ipv4 (now (s at-node .args .cut)) (s at-node .args .h .atoms) (word (s at-node)) (c .before .before .place-of .result .0) (c .place-of2 .result .0)
   unfolding ruleAt
   spans =
       let at = placeOf (now (s at-node .args .cut)) (s at-node .args .h .atoms) in
@@ -99,7 +99,7 @@ cast-t27 c =
     omega (arith, c .before .before .hand-on .ensures .words .few, spans p .within, s (at-node p) .pre .0 .sound .cuts .room)
 
 returns : tie.Need-returns
-unfolding leaves withRule ruleAt
+unfolding updated withRule ruleAt
 returns c =
     let g = at-gather c .gather in
     let p = at-places (at-gather c) in

@@ -3,6 +3,7 @@ use mathlib.Core.Path.{_≡_, refl, _∙_}
 use Prim.Native.Nat.{_-_, _≤_, _<_}
 use native.Mathlib.Omega.{arith}
 use lib.ListN.{length}
+use Rattle.meaning.specs.Hall.{ipv4}
 use Rattle.tables.specs.Sweep.{ownerBy, raised, SweptAll}
 use Rattle.tables.proofs.Sweeping.{small, may-settle, swept-none, swept-reads, swept-settled}
 use borrow.Author.Needs.{needs}
@@ -12,7 +13,7 @@ use Rattle.tables.proofs.update.take_over.Tie as tie
 abbrev Inv-loop : tie.InvT-loop
 Inv-loop rule cut number label₀ owner₀ list₀ n v mine rank end p₀ k₀ label owner list p k =
     (p₀ ≤ p) × (p ≤ end) × (length list ≡ length list₀)
-    × SweptAll cut number n v p₀ p (ownerBy owner₀ number v) (λ q. raised rule mine rank (ownerBy owner₀ number v q)) label₀ label owner₀ owner list₀ list k
+    × SweptAll cut number n v p₀ p (ownerBy owner₀ number v) (λ q. raised ipv4 rule mine rank (ownerBy owner₀ number v q)) label₀ label owner₀ owner list₀ list k
 
 abbrev μ-loop : tie.MeasureT-loop
 μ-loop rule cut number label₀ owner₀ list₀ n v mine rank end p₀ k₀ label owner list p k = end - p
