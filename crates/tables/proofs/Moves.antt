@@ -11,6 +11,7 @@ use lib.ListN.{length, getD, set}
 use borrow.Author.Tests.{eq-eqb, ne-eqb}
 use Rattle.meaning.specs.Search.{pick}
 use Rattle.meaning.specs.Labels.{on}
+use Rattle.meaning.specs.Changes.{noLink}
 use Rattle.lent.proofs.LabelWords.{on-with, on-without}
 use Rattle.tables.specs.Bits.{Put, TakenOff, Moved}
 
@@ -32,25 +33,25 @@ other-atom l k m j n = ap (λ (t : Bool). eqb m l && t) (ne-eqb j k n) ∙ and-f
 meant : (l k m : ℕ) → m ≡ l → (eqb m l && eqb k k) ≡ true
 meant l k m e = rw (eq-eqb m l e, eq-eqb k k refl)
 
--- no link below 64 is link 64
-no-link : (l : ℕ) → l < 64 → eqb 64 l ≡ false
-no-link l h = ne-eqb 64 l (λ e. omega arith)
+-- no link is `noLink`
+no-link : (l : ℕ) → l < 64 → eqb noLink l ≡ false
+no-link l h = ne-eqb noLink l (λ e. omega arith)
 
 module _ {b a : List ℕ} {o k : ℕ} (hk : k < 512) where
-  pub off-first : TakenOff b a o k → Moved b a o 64 k
+  pub off-first : TakenOff b a o k → Moved b a o noLink k
   off-first p = record {
     at = λ l hl. go l hl (ℕ-discrete o l);
     else = λ l j hl hj n. p .member l j hl hj ∙ ap (λ (t : Bool). on b l j && not t) (other-atom o k l j n) ∙ and-true (on b l j);
   }
     where
-      go : (l : ℕ) → l < 64 → Dec (o ≡ l) → on a l k ≡ pick (eqb 64 l) true (pick (eqb o l) false (on b l k))
+      go : (l : ℕ) → l < 64 → Dec (o ≡ l) → on a l k ≡ pick (eqb noLink l) true (pick (eqb o l) false (on b l k))
       go l hl (yes e) = rw (no-link l hl, eq-eqb o l e) (p .member l k hl hk ∙ ap (λ (t : Bool). on b l k && not t) (meant o k l (sym e)) ∙ and-false (on b l k))
       go l hl (no n) = rw (no-link l hl, ne-eqb o l n) (p .member l k hl hk ∙ ap (λ (t : Bool). on b l k && not t) (other-link o k l k (λ e. n (sym e))) ∙ and-true (on b l k))
 
-pub off-none : (b : List ℕ) (o k : ℕ) → o ≡ 64 → Moved b b o 64 k
+pub off-none : (b : List ℕ) (o k : ℕ) → o ≡ noLink → Moved b b o noLink k
 off-none b o k e = record { at = λ l hl. rw (no-link l hl, e, no-link l hl); else = λ l j hl hj n. refl }
 
-module _ {b a : List ℕ} {o k : ℕ} (v : Moved b a o 64 k) (hk : k < 512) where
+module _ {b a : List ℕ} {o k : ℕ} (v : Moved b a o noLink k) (hk : k < 512) where
   pub put-second : {a′ : List ℕ} {m : ℕ} → Put a a′ m k → Moved b a′ o m k
   put-second {a′} {m} p = record {
     at = λ l hl. go l hl (ℕ-discrete m l);
@@ -63,5 +64,5 @@ module _ {b a : List ℕ} {o k : ℕ} (v : Moved b a o 64 k) (hk : k < 512) wher
           rw (ne-eqb m l n)
           (p .member l k hl hk ∙ ap (λ (t : Bool). on a l k || t) (other-link m k l k (λ e. n (sym e))) ∙ or-false (on a l k) ∙ (rw (no-link l hl) at (v .at l hl)))
 
-  pub put-none : (m : ℕ) → m ≡ 64 → Moved b a o m k
+  pub put-none : (m : ℕ) → m ≡ noLink → Moved b a o m k
   put-none m e = rw e v
