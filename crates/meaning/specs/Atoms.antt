@@ -17,6 +17,7 @@ placeOf cut (suc k) a = pick (leb (getD cut (suc k) 0) a) (suc k) (placeOf cut k
 unfoldable pub isCut : List ℕ → ℕ → ℕ → Bool
 isCut cut n b = eqb (getD cut (placeOf cut n b) 0) b
 
+-- b bounds an atom of the state
 abbrev pub isBoundary : State → ℕ → Bool
 isBoundary m b = isCut (m .atoms .cut) (m .atoms .count) b
 

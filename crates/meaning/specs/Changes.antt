@@ -14,6 +14,7 @@ use Rattle.meaning.specs.Winner.{winner, nextAt}
 abbrev pub noLink : ℕ
 noLink = 64
 
+-- a link as an entry of the list writes it
 unfoldable pub linkOrNone : Option ℕ → ℕ
 linkOrNone none = noLink
 linkOrNone (some l) = l

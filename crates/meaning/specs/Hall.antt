@@ -47,6 +47,7 @@ empty width = record {
   atoms = record { count = 1; cut = set (zeroes 513) 1 (2 ^ width); number = zeroes 512 };
 }
 
+-- the box as it starts: a fresh state over IPv4 addresses
 abbrev pub fresh : State
 fresh = empty ipv4
 

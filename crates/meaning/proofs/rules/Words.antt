@@ -39,7 +39,7 @@ module _ {width l p n t : ℕ} (R : RuleFits width l p n t) where
 
   pub link-of : linkOf width w ≡ l
   unfolding linkOf
-  link-of = rw above (digits-mod free (R .link))
+  link-of = ap (λ (x : ℕ). x % 64) above ∙ digits-mod free (R .link)
 
   behind : w / 2 ^ width / 64 ≡ free
   behind = ap (λ (x : ℕ). x / 64) above ∙ digits-div free (R .link)
