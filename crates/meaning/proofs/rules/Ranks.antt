@@ -1,12 +1,13 @@
 -- Laws of `better` and `best`: the winner is the one eligible rule of the highest rank.
 -- Assumes nothing.
-use mathlib.Core.Path.{_≡_, refl, sym, _∙_, subst, subst⁻¹}
+use mathlib.Core.Path.{_≡_, refl, sym, ap, _∙_, subst, subst⁻¹}
 use mathlib.Core.Logic.{_⊎_, inl, inr, ⊎-elim}
 use mathlib.Core.Bool.{Bool, true, false, true≢false}
 use Prim.Native.Nat.{ℕ, zero, suc, _≤_, _<_, _-_}
 use native.Mathlib.Nat.{eq-or-lt-of-le, le-of-suc-le-suc, not-suc-le-zero}
 use native.Mathlib.Omega.{arith}
 use borrow.Author.Tests.{lt-ltb, le-ltb, eq-eqb, ne-eqb}
+use Rattle.meaning.specs.Search.{pick}
 use Rattle.meaning.specs.Winner.{better, best}
 use Rattle.meaning.proofs.base.Order.{le-or-lt, Order, less, same, more, order}
 
@@ -31,11 +32,11 @@ module _ (E : ℕ → Bool) (rank : ℕ → ℕ) (w i : ℕ) where
 
   pub take-higher : E i ≡ true → (w ≡ 256 → ⊥) → rank w < rank i → i ≡ better E rank w i
   unfolding better
-  take-higher e n h = rw (e, ne-eqb _ _ n, lt-ltb _ _ h)
+  take-higher e n h = rw (e, ne-eqb _ _ n) (ap (λ (b : Bool). pick b i w) (sym (lt-ltb (rank w) (rank i) h)))
 
   pub keep-lower : E i ≡ true → (w ≡ 256 → ⊥) → rank i ≤ rank w → w ≡ better E rank w i
   unfolding better
-  keep-lower e n h = rw (e, ne-eqb _ _ n, le-ltb _ _ h)
+  keep-lower e n h = rw (e, ne-eqb _ _ n) (ap (λ (b : Bool). pick b i w) (sym (le-ltb (rank w) (rank i) h)))
 
   -- the same, with the two ranks as code has them
   pub higher-by : (x y : ℕ) → x ≡ rank w → y ≡ rank i → E i ≡ true → (w ≡ 256 → ⊥) → x < y → i ≡ better E rank w i

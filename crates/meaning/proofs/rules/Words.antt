@@ -61,7 +61,7 @@ module _ {width l p n t : ℕ} (R : RuleFits width l p n t) where
 
   pub rank-of : rank width w ≡ t
   unfolding rank
-  rank-of = rw marked-of (omega (arith, R .priority))
+  rank-of = ap (λ (x : ℕ). x % 2 ^ 16) marked-of ∙ omega (arith, R .priority)
 
   pub lower-of : lower width w ≡ p
   unfolding lower ruleWord
