@@ -1,4 +1,6 @@
 // The hall: one record from the caller's bytes, taken in its order.
+#![tactic(auto)]
+
 mod link;
 mod step;
 

@@ -1,5 +1,7 @@
 // hallcheck: reads a stream of records from standard input, at most 65,536 bytes, and prints a line for each record.
 // No contract can say what is read or printed; what each line holds is the contract of the crate `print`.
+#![tactic(auto)]
+
 ghost use Rattle.std.specs.Prelude.{◌≡◌, ◌+◌, ◌*◌, ◌≤◌, length};
 ghost use Rattle.meaning.specs.Changes.{entry_words};
 ghost use Rattle.meaning.specs.Step.{list_room};

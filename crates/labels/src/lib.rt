@@ -1,5 +1,7 @@
 // The questions asked of a label itself: 512 words, link l's at 8 l to 8 l + 7, and atom k the bit k % 64 of the word k / 64 of these.
 // Nothing here has a premise.
+#![tactic(auto)]
+
 ghost use Rattle.std.specs.Prelude.{◌≡◌};
 ghost use Rattle.meaning.specs.Search.{found};
 ghost use Rattle.meaning.specs.Labels.{how_many, lowest_on};

@@ -1,4 +1,5 @@
 // The types of the box: what it keeps by value, the records that it reads and the answers that it gives.
+#![tactic(auto)]
 
 // How many words a lent change list must have room for: an entry of five for each of 512 atoms.
 pub const LIST_ROOM: usize = 2560;
@@ -7,7 +8,7 @@ pub const LIST_ROOM: usize = 2560;
 pub const NO_LINK: u64 = 64;
 
 // What becomes of a packet: out by a link or lost at a node, each with the hops made; or round for ever.
-#[derive(Drop)]
+#[derive(Clone, Copy)]
 pub enum Fate {
     Out(u8, u8),
     Lost(u8, u8),
@@ -15,7 +16,7 @@ pub enum Fate {
 }
 
 // What a record is answered with.
-#[derive(Drop)]
+#[derive(Clone, Copy)]
 pub enum Answer {
     End,
     Refused(u8),
@@ -30,7 +31,7 @@ pub enum Answer {
 }
 
 // A record, with its fields in the document's order.
-#[derive(Drop)]
+#[derive(Clone, Copy)]
 pub enum Record {
     Hall(u8),
     Link(u8, u8, u8),
@@ -44,7 +45,7 @@ pub enum Record {
 }
 
 // What a hall keeps beside its tables: phase 0 before the hall record, 1 while links come, 2 once closed.
-#[derive(Drop)]
+#[derive(Clone, Copy)]
 pub struct Hall {
     pub phase: u8,
     pub nodes: u8,
@@ -53,7 +54,7 @@ pub struct Hall {
 }
 
 // Where a link ends.
-#[derive(Drop)]
+#[derive(Clone, Copy)]
 pub enum End {
     Node(u8),
     Port(u8),
@@ -61,7 +62,7 @@ pub enum End {
 }
 
 // A rule's parts beside its number.
-#[derive(Drop)]
+#[derive(Clone, Copy)]
 pub struct Rule {
     pub link: u8,
     pub prefix: u32,
@@ -70,7 +71,7 @@ pub struct Rule {
 }
 
 // What the bytes from a place on begin with: no record, for want of bytes or by a refusal; or a record, with how many bytes it has.
-#[derive(Drop)]
+#[derive(Clone, Copy)]
 pub enum Read {
     End,
     Refused(u8),
@@ -78,28 +79,28 @@ pub enum Read {
 }
 
 // What is read at a place of a stream, and the place after it.
-#[derive(Drop)]
+#[derive(Clone, Copy)]
 pub struct Placed {
     pub read: Read,
     pub place: usize,
 }
 
 // What a record's own checks say.
-#[derive(Drop)]
+#[derive(Clone, Copy)]
 pub enum Check {
     Passed,
     Refused(u8),
 }
 
 // A number that was looked for.
-#[derive(Drop)]
+#[derive(Clone, Copy)]
 pub enum Found {
     At(usize),
     Nothing,
 }
 
 // What a step returns: the answer, how many bytes it went past, and what the hall keeps by value.
-#[derive(Drop)]
+#[derive(Clone, Copy)]
 pub struct Step {
     pub answer: Answer,
     pub passed: usize,
@@ -107,7 +108,7 @@ pub struct Step {
 }
 
 // What a run over a whole stream returns: how many records it went past, the answer that it stopped at, and what the hall keeps by value.
-#[derive(Drop)]
+#[derive(Clone, Copy)]
 pub struct Ran {
     pub past: usize,
     pub stopped: Answer,
@@ -115,7 +116,7 @@ pub struct Ran {
 }
 
 // What an accepted insert or remove returns: what the hall keeps by value, and how many entries it wrote to the change list.
-#[derive(Drop)]
+#[derive(Clone, Copy)]
 pub struct Updated {
     pub hall: Hall,
     pub listed: u16,

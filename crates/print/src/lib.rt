@@ -1,4 +1,6 @@
 // Text into a lent buffer: numbers in decimal, and the lines that `hallcheck` prints.
+#![tactic(auto)]
+
 mod line;
 mod number;
 

@@ -118,7 +118,7 @@ fn find_reach(
 }
 
 // How many addresses are out, lost and round from some node.
-#[derive(Drop)]
+#[derive(Clone, Copy)]
 struct Counts {
     out: u64,
     lost: u64,

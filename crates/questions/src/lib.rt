@@ -1,4 +1,6 @@
 // The questions: where an address goes, whether one goes round, whether one node reaches another, and how many addresses end how.
+#![tactic(auto)]
+
 mod ask;
 mod lead;
 mod stand;

@@ -9,7 +9,7 @@ use meaning::Fate;
 use tables::Atom;
 
 // Where one move leads: to a node, or to an end.
-#[derive(Drop)]
+#[derive(Clone, Copy)]
 pub enum Led {
     To(u8),
     Ended,
@@ -89,7 +89,7 @@ fn move_from(link: &[u16; 64], owner: &[u16; 8192], atom: Atom, v: u8) -> Led
 }
 
 // What a look at a node shows: that it lies on a circle, or the nodes that are seen to lie on none, a bit for each.
-#[derive(Drop)]
+#[derive(Clone, Copy)]
 pub enum Seen {
     Circle,
     Off(u16),

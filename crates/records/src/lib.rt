@@ -1,4 +1,6 @@
 // Reading: the record that a stream begins with, and a reader that holds the caller's stream and its place. Nothing here has a premise.
+#![tactic(auto)]
+
 mod reader;
 mod record;
 

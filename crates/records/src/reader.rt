@@ -7,7 +7,7 @@ ghost use Rattle.records.specs.Readers.{next, next_of};
 use meaning::{Placed, Read};
 
 // The caller's stream and a place in it.
-#[derive(Drop)]
+#[derive(Clone, Copy)]
 pub struct Reader<'a> {
     pub bytes: &'a [u8],
     pub at: usize,

@@ -7,7 +7,7 @@ ghost use Rattle.records.specs.Kinds.{BodyIn};
 use meaning::{Read, Record};
 
 // How many bytes the body of a kind has, where there is such a kind.
-#[derive(Drop)]
+#[derive(Clone, Copy)]
 pub enum Body {
     Bytes(usize),
     Unknown,

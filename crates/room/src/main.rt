@@ -2,6 +2,8 @@
 // First it prints the number of the refusal at which a run over the empty stream stops, or 14 for "end", then that of an insert cut off. For each
 // kind from 0 to 10, in a stream of 11 bytes, it prints the kind and that number: an insert has 11 bytes, so that its run comes to the end;
 // behind the others stands a kind 0.
+#![tactic(auto)]
+
 use meaning::Answer;
 
 // Prints a number and the byte after it.

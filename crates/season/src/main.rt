@@ -1,6 +1,8 @@
 // A season of a full hall: 256 rules and 512 atoms, then rules that come and go over the same boundaries, and one that would need a
 // boundary too many. It lends local arrays to the box and prints what is left: the bytes written, the records passed, the links and the atoms,
 // and for each link how many atoms it has and the lowest_numbered one. `stdout` was worked out apart, by a scan over the live rules.
+#![tactic(auto)]
+
 use meaning::Found;
 
 // Writes a byte into the stream, where there is room. Returns the next place.

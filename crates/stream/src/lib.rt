@@ -1,4 +1,6 @@
 // A fresh box, and a run over a whole stream.
+#![tactic(auto)]
+
 ghost use Rattle.std.specs.Prelude.{◌≡◌, ℕ, ◌+◌, ◌<◌, ◌≤◌, length};
 ghost use Rattle.meaning.specs.Hall.{zeroes, fresh};
 ghost use Rattle.meaning.specs.Labels.{labels_of};

@@ -10,10 +10,10 @@ ghost use Rattle.tables.specs.Rows.{Split, Given};
 use meaning::Hall;
 
 // A place in address order, and the number of an atom: neither tells the other.
-#[derive(Drop)]
+#[derive(Clone, Copy)]
 pub struct Place(pub usize);
 
-#[derive(Drop)]
+#[derive(Clone, Copy)]
 pub struct Atom(pub u16);
 
 // The place of address a: the last whose lower end is at most a.

@@ -1,4 +1,6 @@
 // The tables: rules, atoms and the labels of links, how an insert and a remove change them, and which atom an address lies in.
+#![tactic(auto)]
+
 mod atom;
 mod label;
 mod link;

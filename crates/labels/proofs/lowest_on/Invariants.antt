@@ -1,0 +1,20 @@
+-- `label::lowest_on` meets its contract. The loop's invariant: no atom of the words passed is on the link. Assumes nothing.
+use Prim.Native.Nat.{ℕ, ◌+◌, ◌*◌, ◌-◌, ◌≤◌, ◌<◌}
+use Rattle.lent.proofs.LabelWords.{none_below, there}
+use Rattle.meaning.proofs.base.Search.{lowest_off, lowest_first}
+use Rattle.meaning.specs.Labels.{on, lowest_on}
+use Rattle.meaning.specs.Search.{found}
+use borrow.Author.Rules.{rules}
+use borrow.Author.Tests.{lt-ltb, le-ltb}
+use lib.Count.{trailing_le}
+use lib.ListN.{get_or}
+use mathlib.Core.Bool.{false}
+use mathlib.Core.Path.{◌≡◌, sym}
+use native.Mathlib.Omega.{arith}
+use Rattle.labels.proofs.lowest_on.Given as goal
+
+abbrev pub invariant-loop-i : goal.invariant-loop-i
+invariant-loop-i l = (l.i ≤ 8) × ((j : ℕ) → j < 64 * l.i → on l.label l.link j ≡ false)
+
+abbrev pub decreases-loop-i : goal.decreases-loop-i
+decreases-loop-i l = 8 - l.i

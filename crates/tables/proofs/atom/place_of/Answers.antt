@@ -1,0 +1,24 @@
+-- `atom::place_of` meets its contract. The loop's invariant: the answer lies from low to below high. Assumes nothing.
+use Prim.Native.Nat.{◌+◌, ◌-◌, ◌/◌, ◌≤◌, ◌<◌}
+use Rattle.meaning.proofs.atoms.Cuts.{place_le, place_max, place_lt}
+use Rattle.meaning.specs.Atoms.{place_of}
+use borrow.Author.Rules.{rules}
+use native.Mathlib.Omega.{arith}
+use Rattle.tables.proofs.atom.place_of.Goals as goal
+
+pub loop-low-init : goal.loop-low-init
+loop-low-init c = omega (arith, place_le c.args.cut.now c.args.n c.args.a)
+
+pub loop-low-preserved-then-cut-middle : goal.loop-low-preserved-then-cut-middle
+loop-low-preserved-then-cut-middle c =
+    let b = c in
+    let g = b.args in
+    let m = b.loop-low.low + (b.loop-low.high - b.loop-low.low) / 2 in
+    omega (arith, place_max g.cut.now g.n g.a m (omega arith) c.if-cut-middle.true)
+
+pub loop-low-preserved : goal.loop-low-preserved
+loop-low-preserved c =
+    let b = c in
+    let g = b.args in
+    let m = b.loop-low.low + (b.loop-low.high - b.loop-low.low) / 2 in
+    omega (arith, place_lt b.requires g.a m (omega arith) c.if-cut-middle.false)

@@ -1,0 +1,15 @@
+-- `rule::overlaps` meets its contract. Assumes nothing.
+use Rattle.tables.proofs.Rules.{overlaps_if, overlaps_not}
+use borrow.Author.Rules.{rules}
+use Rattle.tables.proofs.rule.overlaps.Goals as goal
+
+pub returns-then-lower_of-upper_of : goal.returns-then-lower_of-upper_of
+returns-then-lower_of-upper_of c =
+    let d = c in
+    let b = d in
+    overlaps_if _ _ _ _ _ b.lower_of.ensures.0 b.upper_of.ensures.0 _ _ c.lower_of-then-lower_of-upper_of.ensures.0 c.upper_of-then-lower_of-upper_of.ensures.0 d.if-lower_of-upper_of.true
+
+pub returns : goal.returns
+returns c =
+    let b = c in
+    overlaps_not _ _ _ _ _ b.lower_of.ensures.0 b.upper_of.ensures.0 c.if-lower_of-upper_of.false
