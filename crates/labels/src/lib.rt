@@ -25,7 +25,7 @@ pub fn atoms_on(label: &[u64; 512], link: usize) -> u32
     n
 }
 
-// The lowest_numbered atom on a link.
+// The lowest-numbered atom on a link.
 pub fn lowest_on(label: &[u64; 512], link: usize) -> Found
     ensures { found result ≡ lowest_on label.now link }
 {

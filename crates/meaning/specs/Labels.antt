@@ -31,7 +31,7 @@ bit w j = w / 2 ^ j % 2
 abbrev pub on : List ℕ → ℕ → ℕ → Bool
 on label l k = eqb (bit (get_or label (8 * l + k / 64) 0) (k % 64)) 1
 
--- how many atoms link l has, and the lowest_numbered one, asked of its label; there are no links but 64
+-- how many atoms link l has, and the lowest-numbered one, asked of its label; there are no links but 64
 unfoldable pub how_many : List ℕ → ℕ → ℕ
 how_many label l = pick (ltb l 64) (count_below 512 (on label l)) 0
 

@@ -1,5 +1,5 @@
 -- How the box works things out, and nothing that a reader must believe: the owners, which it keeps beside the labels, and the questions over
--- places. Owners are determined by the rest of the state; by a law the places answer as the addresses do (proofs/Constant: by-place).
+-- places. Owners are determined by the rest of the state; by a law the places answer as the addresses do (proofs/atoms/Constant: by_place_lem).
 -- Assumes nothing: these are definitions.
 use Rattle.std.specs.Prelude.{List, Bool, ℕ, zero, suc, ◌+◌, ◌-◌, ◌*◌, ◌/◌, ◌%◌, ltb, eqb, get_or}
 use Rattle.std.proofs.Math.Option.{Option, none, some}

@@ -1,6 +1,6 @@
 // A season of a full hall: 256 rules and 512 atoms, then rules that come and go over the same boundaries, and one that would need a
 // boundary too many. It lends local arrays to the box and prints what is left: the bytes written, the records passed, the links and the atoms,
-// and for each link how many atoms it has and the lowest_numbered one. `stdout` was worked out apart, by a scan over the live rules.
+// and for each link how many atoms it has and the lowest-numbered one. `stdout` was worked out apart, by a scan over the live rules.
 #![tactic(auto)]
 
 use meaning::Found;
@@ -98,7 +98,7 @@ fn say(number: u64, after: u8) {
     io::write_all(1, &text);
 }
 
-// Prints a link's number, how many atoms it has, and the lowest_numbered one, or 512 for none.
+// Prints a link's number, how many atoms it has, and the lowest-numbered one, or 512 for none.
 fn say_link(label: &[u64; 512], l: usize) {
     say(l as u64, b' ');
     say(labels::atoms_on(label, l) as u64, b' ');

@@ -1,6 +1,6 @@
 -- The atoms after any records: each address lies in exactly one, their numbers are those below the counter, the winners are constant on each,
 -- and an atom is on a link exactly when, for each of its addresses, the winner at the link's source names the link.
--- What is asked of a label itself: how many atoms are on the link, and which is the lowest_numbered. Assumes nothing.
+-- What is asked of a label itself: how many atoms are on the link, and which is the lowest-numbered. Assumes nothing.
 use mathlib.Core.Path.{◌≡◌, refl, sym, ap, ◌∙◌}
 use mathlib.Core.Logic.{◌↔◌, ⊎_elim}
 use mathlib.Core.Bool.{true, false, true≢false}
@@ -130,7 +130,7 @@ held_of m c = record { came = c; labels = refl; owners = refl }
 pub atoms_held : (h : Hall) (link rule cut number label owner : List ℕ) → Held (state_of h link rule cut number) label owner → AtomsHeld h cut number
 atoms_held h link rule cut number label owner x = record { link = link; rule = rule; label = label; owner = owner; held = x }
 
--- ---- how many atoms a link has, and the lowest_numbered one, asked of the label itself
+-- ---- how many atoms a link has, and the lowest-numbered one, asked of the label itself
 
 -- there are no links but 64
 pub no_label : (label : List ℕ) (l : ℕ) → 64 ≤ l → (how_many label l ≡ 0) × (lowest_on label l ≡ none)
@@ -145,7 +145,7 @@ module _ (m : State) (S : Sound m) (l : ℕ) (hl : l < 64) where
       rw (lt-ltb l 64 hl)
       (count_same (on (labels_of m) l) (is_on m l) 512 (λ k h. labels_on m l k hl h) ∙ count_until (is_on m l) m.atoms.count 512 (few_atoms m S) (λ k h g. no_atom m S l k h))
 
-  -- THE LAW: the lowest_numbered one is the lowest that is on it, and there is none where none is
+  -- THE LAW: the lowest-numbered one is the lowest that is on it, and there is none where none is
   pub lowest_numbered : lowest_on (labels_of m) l ≡ lowest_below m.atoms.count (is_on m l)
   unfolding lowest_on
   lowest_numbered =
