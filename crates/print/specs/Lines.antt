@@ -1,11 +1,11 @@
 -- The lines that `hallcheck` prints: one for each record, and one for each entry of a change list.
 -- Assumes nothing: these are definitions.
-use Rattle.std.specs.Prelude.{Bool, true, false, List, [], ◌∷◌, ◌++◌, ℕ, eqb}
+use Rattle.std.specs.Prelude.{List, [], ◌∷◌, ◌++◌, ℕ, eqb}
 use Prim.Native.Char.{code}
 use Prim.Native.String.{String, [] as nothing, ◌∷◌ as ◌then◌}
 use Rattle.meaning.specs.Changes.{no_link}
 use Rattle.meaning.specs.Search.{pick}
-use Rattle.meaning.specs.Answers.{Word, Said, said}
+use Rattle.meaning.specs.Answers.{Word, said}
 use Rattle.meaning.specs.Answers.Word.{end, refused, ok, loop, none, out, lost, round, yes, no, tally}
 use Rattle.meaning.specs.declared.Answer.{Answer}
 use Rattle.print.specs.Text.{decimal}

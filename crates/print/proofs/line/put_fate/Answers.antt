@@ -4,7 +4,6 @@ use Rattle.meaning.specs.declared.Answer.TheVariants.{Went}
 use Rattle.meaning.specs.declared.Fate.{Fate}
 use Rattle.print.proofs.Writes.{also}
 use Rattle.print.specs.Lines.{line, word, values}
-use borrow.Author.Rules.{rules}
 use mathlib.Core.Path.{sym, ap}
 use native.Mathlib.Omega.{arith}
 use Rattle.print.proofs.line.put_fate.Goals as goal
@@ -12,20 +11,17 @@ use Rattle.print.proofs.line.put_fate.Goals as goal
 pub returns-in-Out : goal.returns-in-Out
 unfolding line word values said said_fate
 returns-in-Out c =
-    let d = c in
-    let a = d.args in
-    also (sym (ap (λ (f : Fate). line a.place (Went f)) d.fate-1.given.1)) (omega arith) d.put_two.ensures
+    let a = c.args in
+    also (sym (ap (λ (f : Fate). line a.place (Went f)) c.in-Out.is)) (omega arith) c.put_two.ensures
 
 pub returns-in-Lost : goal.returns-in-Lost
 unfolding line word values said said_fate
 returns-in-Lost c =
-    let d = c in
-    let a = d.args in
-    also (sym (ap (λ (f : Fate). line a.place (Went f)) d.fate-in-Lost-1.given.1)) (omega arith) d.put_two-in-Lost.ensures
+    let a = c.args in
+    also (sym (ap (λ (f : Fate). line a.place (Went f)) c.in-Lost.is)) (omega arith) c.put_two-in-Lost.ensures
 
 pub returns-in-Round : goal.returns-in-Round
 unfolding line word values said said_fate
 returns-in-Round c =
-    let d = c in
-    let a = d.args in
-    also (sym (ap (λ (f : Fate). line a.place (Went f)) d.enum_told-1.given.1)) (omega arith) d.put_start.ensures
+    let a = c.args in
+    also (sym (ap (λ (f : Fate). line a.place (Went f)) c.in-Round.is)) (omega arith) c.put_start.ensures

@@ -1,6 +1,5 @@
 -- `print::line::put_line` meets its contract. Assumes nothing.
 use Rattle.print.proofs.Rooms.{unwritten, written}
-use borrow.Author.Rules.{rules}
 use borrow.Author.Tests.{ltb-true, ltb-false}
 use mathlib.Core.Path.{sym, ◌∙◌}
 use Rattle.print.proofs.line.put_line.Goals as goal
@@ -9,9 +8,8 @@ pub returns-then-is_full : goal.returns-then-is_full
 returns-then-is_full c = unwritten (ltb-true _ _ (sym c.is_full.ensures ∙ c.if-is_full.true))
 
 pub write_line-requires : goal.write_line-requires
-write_line-requires c = let e = c in ltb-false _ _ (sym e.is_full.ensures ∙ e.if-is_full.false)
+write_line-requires c = ltb-false _ _ (sym c.is_full.ensures ∙ c.if-is_full.false)
 
 pub returns : goal.returns
 returns c =
-    let e = c in
-    written (ltb-false _ _ (sym e.is_full.ensures ∙ e.if-is_full.false)) c.write_line.ensures
+    written (ltb-false _ _ (sym c.is_full.ensures ∙ c.if-is_full.false)) c.write_line.ensures

@@ -2,7 +2,6 @@
 use Prim.Native.Nat.{ℕ}
 use Rattle.print.proofs.Fields.{no_link_lem, some_link}
 use Rattle.print.proofs.Writes.{both, also}
-use borrow.Author.Rules.{rules}
 use mathlib.Core.List.{List, [], ◌∷◌, ◌++◌}
 use mathlib.Core.Path.{sym, ap}
 use native.Mathlib.Omega.{arith}
@@ -10,14 +9,10 @@ use Rattle.print.proofs.line.put_link.Goals as goal
 
 pub returns-then-link-eq-NO_LINK : goal.returns-then-link-eq-NO_LINK
 returns-then-link-eq-NO_LINK c =
-    let d = c in
-    let s = d in
-    also (ap (λ (t : List ℕ). t ++ (s.args.after ∷ [])) (sym (no_link_lem s.args.link d.if-link-eq-NO_LINK.true))) (omega arith)
-    (both d.put_byte.ensures d.put_byte.ensures)
+    also (ap (λ (t : List ℕ). t ++ (c.args.after ∷ [])) (sym (no_link_lem c.args.link c.if-link-eq-NO_LINK.true))) (omega arith)
+    (both c.put_byte-next.ensures c.put_byte.ensures)
 
 pub returns : goal.returns
 returns c =
-    let d = c in
-    let s = d in
-    also (ap (λ (t : List ℕ). t ++ (s.args.after ∷ [])) (sym (some_link s.args.link d.if-link-eq-NO_LINK.false))) (omega arith)
-    (both d.put_short-next.ensures d.put_byte-2.ensures)
+    also (ap (λ (t : List ℕ). t ++ (c.args.after ∷ [])) (sym (some_link c.args.link c.if-link-eq-NO_LINK.false))) (omega arith)
+    (both c.put_short-next.ensures c.put_byte-2.ensures)

@@ -2,15 +2,11 @@
 use Rattle.print.proofs.Fields.{join}
 use Rattle.print.proofs.Writes.{also}
 use Rattle.print.specs.Text.{decimal}
-use borrow.Author.Rules.{rules}
-use mathlib.Core.List.{[], ◌∷◌}
 use mathlib.Core.Path.{refl}
 use native.Mathlib.Omega.{arith}
 use Rattle.print.proofs.line.put_one.Goals as goal
 
 pub returns : goal.returns
 returns c =
-    let d₂ = c in
-    let d₁ = d₂ in
-    let a = d₁.args in
-    also refl (omega arith) (join (decimal a.place) a.text.now d₁.put_start-next.ensures d₂.put_field.ensures)
+    let a = c.args in
+    also refl (omega arith) (join (decimal a.place) a.text.now c.put_start-next.ensures c.put_field.ensures)

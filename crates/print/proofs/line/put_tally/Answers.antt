@@ -4,7 +4,6 @@ use Rattle.print.proofs.Fields.{join}
 use Rattle.print.proofs.Writes.{also}
 use Rattle.print.specs.Lines.{bytes, line, word, values}
 use Rattle.print.specs.Text.{decimal}
-use borrow.Author.Rules.{rules}
 use mathlib.Core.List.{[], ◌∷◌}
 use mathlib.Core.Path.{refl}
 use native.Mathlib.Omega.{arith}
@@ -13,12 +12,8 @@ use Rattle.print.proofs.line.put_tally.Goals as goal
 pub returns : goal.returns
 unfolding line word values said
 returns c =
-    let d₄ = c in
-    let d₃ = d₄ in
-    let d₂ = d₃ in
-    let d₁ = d₂ in
-    let a = d₁.args in
+    let a = c.args in
     also refl (omega arith)
-    (join (decimal a.place) (bytes " tally ") d₁.put_start-start.ensures
-    (join (decimal a.a) (32 ∷ []) d₂.put_field.ensures
-    (join (decimal a.b) (32 ∷ []) d₃.put_field-second.ensures d₄.put_field.ensures)))
+    (join (decimal a.place) (bytes " tally ") c.put_start-start.ensures
+    (join (decimal a.a) (32 ∷ []) c.put_field-first.ensures
+    (join (decimal a.b) (32 ∷ []) c.put_field-second.ensures c.put_field.ensures)))

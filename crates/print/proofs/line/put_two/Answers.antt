@@ -2,7 +2,6 @@
 use Rattle.print.proofs.Fields.{join}
 use Rattle.print.proofs.Writes.{also}
 use Rattle.print.specs.Text.{decimal}
-use borrow.Author.Rules.{rules}
 use mathlib.Core.List.{[], ◌∷◌}
 use mathlib.Core.Path.{refl}
 use native.Mathlib.Omega.{arith}
@@ -10,10 +9,7 @@ use Rattle.print.proofs.line.put_two.Goals as goal
 
 pub returns : goal.returns
 returns c =
-    let d₃ = c in
-    let d₂ = d₃ in
-    let d₁ = d₂ in
-    let a = d₁.args in
+    let a = c.args in
     also refl (omega arith)
-    (join (decimal a.place) a.text.now d₁.put_start-start.ensures
-    (join (decimal a.a) (32 ∷ []) d₂.put_field.ensures d₃.put_field.ensures))
+    (join (decimal a.place) a.text.now c.put_start-start.ensures
+    (join (decimal a.a) (32 ∷ []) c.put_field-next.ensures c.put_field.ensures))

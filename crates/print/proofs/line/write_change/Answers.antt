@@ -3,7 +3,6 @@ use Rattle.print.proofs.Fields.{join}
 use Rattle.print.proofs.Writes.{both, also}
 use Rattle.print.specs.Lines.{link_text, change}
 use Rattle.print.specs.Text.{decimal}
-use borrow.Author.Rules.{rules}
 use mathlib.Core.List.{[], ◌∷◌}
 use mathlib.Core.Path.{refl}
 use native.Mathlib.Omega.{arith}
@@ -12,16 +11,10 @@ use Rattle.print.proofs.line.write_change.Goals as goal
 pub returns : goal.returns
 unfolding change
 returns c =
-    let d₆ = c in
-    let d₅ = d₆ in
-    let d₄ = d₅ in
-    let d₃ = d₄ in
-    let d₂ = d₃ in
-    let d₁ = d₂ in
-    let a = d₁.args in
+    let a = c.args in
     also refl (omega arith)
-    (both d₁.put-text.ensures
-    (join (decimal a.atom) (32 ∷ []) d₂.put-field.ensures
-    (join (decimal a.lower) (32 ∷ []) d₃.put_field-second.ensures
-    (join (decimal a.upper) (32 ∷ []) d₄.put_field-third.ensures
-    (join (link_text a.old) (32 ∷ []) d₅.put_link.ensures d₆.put_link.ensures)))))
+    (both c.put_text-start.ensures
+    (join (decimal a.atom) (32 ∷ []) c.put_field-first.ensures
+    (join (decimal a.lower) (32 ∷ []) c.put_field-second.ensures
+    (join (decimal a.upper) (32 ∷ []) c.put_field-third.ensures
+    (join (link_text a.old) (32 ∷ []) c.put_link-fourth.ensures c.put_link.ensures)))))

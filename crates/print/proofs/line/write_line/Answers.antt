@@ -2,7 +2,6 @@
 use Rattle.meaning.specs.Answers.{said}
 use Rattle.print.proofs.Writes.{also}
 use Rattle.print.specs.Lines.{line, word, values}
-use borrow.Author.Rules.{rules}
 use mathlib.Core.Path.{sym, ap}
 use native.Mathlib.Omega.{arith}
 use Rattle.print.proofs.line.write_line.Goals as goal
@@ -10,69 +9,59 @@ use Rattle.print.proofs.line.write_line.Goals as goal
 pub returns-in-End : goal.returns-in-End
 unfolding line word values said
 returns-in-End c =
-    let d = c in
-    let a = d.args in
-    also (sym (ap (line a.place) d.enum_told-1.given.1)) (omega arith) d.put_start.ensures
+    let a = c.args in
+    also (sym (ap (line a.place) c.in-End.is)) (omega arith) c.put_start.ensures
 
 pub returns-in-Refused : goal.returns-in-Refused
 unfolding line word values said
 returns-in-Refused c =
-    let d = c in
-    let a = d.args in
-    also (sym (ap (line a.place) d.answer-1.given.1)) (omega arith) d.put_one.ensures
+    let a = c.args in
+    also (sym (ap (line a.place) c.in-Refused.is)) (omega arith) c.put_one.ensures
 
 pub returns-in-Ok : goal.returns-in-Ok
 unfolding line word values said
 returns-in-Ok c =
-    let d = c in
-    let a = d.args in
-    also (sym (ap (line a.place) d.enum_told-in-Ok-1.given.1)) (omega arith) d.put_start-in-Ok.ensures
+    let a = c.args in
+    also (sym (ap (line a.place) c.in-Ok.is)) (omega arith) c.put_start-in-Ok.ensures
 
 pub returns-in-Changed : goal.returns-in-Changed
 unfolding line word values said
 returns-in-Changed c =
-    let d = c in
-    let a = d.args in
-    also (sym (ap (line a.place) d.answer-in-Changed-1.given.1)) (omega arith) d.put_one-in-Changed.ensures
+    let a = c.args in
+    also (sym (ap (line a.place) c.in-Changed.is)) (omega arith) c.put_one-in-Changed.ensures
 
 pub returns-in-Loop : goal.returns-in-Loop
 unfolding line word values said
 returns-in-Loop c =
-    let d = c in
-    let a = d.args in
-    also (sym (ap (line a.place) d.answer-in-Loop-1.given.1)) (omega arith) d.put_two.ensures
+    let a = c.args in
+    also (sym (ap (line a.place) c.in-Loop.is)) (omega arith) c.put_two.ensures
 
 pub returns-in-NoLoop : goal.returns-in-NoLoop
 unfolding line word values said
 returns-in-NoLoop c =
-    let d = c in
-    let a = d.args in
-    also (sym (ap (line a.place) d.enum_told-in-NoLoop-1.given.1)) (omega arith) d.put_start-in-NoLoop.ensures
+    let a = c.args in
+    also (sym (ap (line a.place) c.in-NoLoop.is)) (omega arith) c.put_start-in-NoLoop.ensures
 
 pub returns-in-Went : goal.returns-in-Went
 unfolding line word values said
 returns-in-Went c =
-    let d = c in
-    let a = d.args in
-    also (sym (ap (line a.place) d.answer-in-Went-1.given.1)) (omega arith) d.put_fate.ensures
+    let a = c.args in
+    also (sym (ap (line a.place) c.in-Went.is)) (omega arith) c.put_fate.ensures
 
 pub returns-in-Yes : goal.returns-in-Yes
 unfolding line word values said
 returns-in-Yes c =
-    let d = c in
-    let a = d.args in
-    also (sym (ap (line a.place) d.answer-in-Yes-1.given.1)) (omega arith) d.put_one-in-Yes.ensures
+    let a = c.args in
+    also (sym (ap (line a.place) c.in-Yes.is)) (omega arith) c.put_one-in-Yes.ensures
 
 pub returns-in-No : goal.returns-in-No
 unfolding line word values said
 returns-in-No c =
-    let d = c in
-    let a = d.args in
-    also (sym (ap (line a.place) d.enum_told-in-No-1.given.1)) (omega arith) d.put_start-in-No.ensures
+    let a = c.args in
+    also (sym (ap (line a.place) c.in-No.is)) (omega arith) c.put_start-in-No.ensures
 
 pub returns-in-Tally : goal.returns-in-Tally
 unfolding line word values said
 returns-in-Tally c =
-    let d = c in
-    let a = d.args in
-    also (sym (ap (line a.place) d.answer-in-Tally-1.given.1)) (omega arith) d.put_tally.ensures
+    let a = c.args in
+    also (sym (ap (line a.place) c.in-Tally.is)) (omega arith) c.put_tally.ensures

@@ -1,6 +1,5 @@
 -- `print::number::pack_eight` meets its contract. Assumes nothing.
 use Rattle.print.proofs.Lanes.{hundreds_are, pairs_fit, tens_fit, digits_are}
-use borrow.Author.Rules.{rules}
 use native.Mathlib.Omega.{arith}
 use Rattle.print.proofs.number.pack_eight.Goals as goal
 

@@ -1,7 +1,6 @@
 -- `print::number::put_four` meets its contract. Assumes nothing.
 use Rattle.print.proofs.Words.{four_bytes, four_stores}
 use Rattle.print.proofs.Writes.{also}
-use borrow.Author.Rules.{rules}
 use lib.ListN.{length-set}
 use native.Mathlib.Omega.{arith}
 use Rattle.print.proofs.number.put_four.Goals as goal

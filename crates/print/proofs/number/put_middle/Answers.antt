@@ -1,7 +1,6 @@
 -- `print::number::put_middle` meets its contract. Assumes nothing.
 use Rattle.print.proofs.Digits.{more}
 use Rattle.print.proofs.Writes.{both, also}
-use borrow.Author.Rules.{rules}
 use mathlib.Core.Path.{sym}
 use native.Mathlib.Omega.{arith}
 use Rattle.print.proofs.number.put_middle.Goals as goal

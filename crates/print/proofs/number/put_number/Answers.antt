@@ -1,7 +1,6 @@
 -- `print::number::put_number` meets its contract. Assumes nothing.
 use Rattle.print.proofs.Digits.{most}
 use Rattle.print.proofs.Writes.{both, also}
-use borrow.Author.Rules.{rules}
 use mathlib.Core.Path.{sym}
 use native.Mathlib.Omega.{arith}
 use Rattle.print.proofs.number.put_number.Goals as goal

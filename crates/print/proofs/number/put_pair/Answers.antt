@@ -1,7 +1,6 @@
 -- `print::number::put_pair` meets its contract. Assumes nothing.
 use Rattle.print.proofs.Words.{two_bytes, two_stores}
 use Rattle.print.proofs.Writes.{also}
-use borrow.Author.Rules.{rules}
 use lib.ListN.{length-set}
 use native.Mathlib.Omega.{arith}
 use Rattle.print.proofs.number.put_pair.Goals as goal

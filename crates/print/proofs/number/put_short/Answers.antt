@@ -1,7 +1,6 @@
 -- `print::number::put_short` meets its contract. Assumes nothing.
 use Rattle.print.proofs.Digits.{one, two}
 use Rattle.print.proofs.Writes.{also}
-use borrow.Author.Rules.{rules}
 use mathlib.Core.Path.{sym}
 use native.Mathlib.Omega.{arith}
 use Rattle.print.proofs.number.put_short.Goals as goal

@@ -1,10 +1,7 @@
 -- `print::number::put_text` meets its contract. The loop's invariant: what was passed of the text stands in the buffer. Assumes nothing.
 use Prim.Native.Nat.{◌+◌, ◌-◌, ◌≤◌}
-use Rattle.print.proofs.Writes.{none, copied, whole}
 use Rattle.print.specs.Text.{Wrote}
-use borrow.Author.Rules.{rules}
 use lib.ListN.{length, take}
-use native.Mathlib.Omega.{arith}
 use Rattle.print.proofs.number.put_text.Given as goal
 
 abbrev pub invariant-loop-i : goal.invariant-loop-i

@@ -1,14 +1,13 @@
 -- `records::record::body_of` meets its contract: each arm's kind computes, and what is left is no kind. Assumes nothing.
 use Prim.Native.Nat.{ℕ, ◌≤◌, ◌<◌}
 use Rattle.meaning.proofs.base.Search.{and_both}
-use Rattle.meaning.proofs.records.Reading.{past}
 use Rattle.meaning.specs.Records.{is_kind, body_of}
 use Rattle.records.specs.Kinds.{BodyIn}
 use Rattle.records.specs.declared.record.Body.TheVariants.{Bytes, Unknown}
 use borrow.Author.Tests.{ltb-true, leb-true}
 use lib.Dec.{ltb, leb}
 use mathlib.Core.Bool.{Bool, true, false}
-use mathlib.Core.Logic.{⊎_elim, inl, inr}
+use mathlib.Core.Logic.{⊎_elim}
 use mathlib.Core.Path.{◌≡◌, refl, sym, subst}
 use native.Mathlib.Omega.{arith}
 use Rattle.records.proofs.record.body_of.Goals as goal
@@ -26,36 +25,30 @@ no_kind x n = go (is_kind x) refl
 
 pub returns-in-1 : goal.returns-in-1
 unfolding BodyIn is_kind body_of
-returns-in-1 c = ⊎_elim (λ e. moved 1 1 _ e (refl, refl, omega arith, omega arith, omega arith)) (λ e. moved 1 9 _ e (refl, refl, omega arith, omega arith, omega arith)) c.in-1.keys1
+returns-in-1 c = ⊎_elim (λ e. moved 1 1 _ e (refl, refl, omega arith, omega arith, omega arith)) (λ e. moved 1 9 _ e (refl, refl, omega arith, omega arith, omega arith)) c.in-1.is
 
 pub returns-in-2 : goal.returns-in-2
 unfolding BodyIn is_kind body_of
-returns-in-2 c = moved 3 2 _ c.in-2.keys2 (refl, refl, omega arith, omega arith, omega arith)
+returns-in-2 c = moved 3 2 _ c.in-2.is (refl, refl, omega arith, omega arith, omega arith)
 
 pub returns-in-3 : goal.returns-in-3
 unfolding BodyIn is_kind body_of
-returns-in-3 c = ⊎_elim (λ e. moved 0 3 _ e (refl, refl, omega arith, omega arith, omega arith)) (λ e. moved 0 6 _ e (refl, refl, omega arith, omega arith, omega arith)) c.in-3.keys3
+returns-in-3 c = ⊎_elim (λ e. moved 0 3 _ e (refl, refl, omega arith, omega arith, omega arith)) (λ e. moved 0 6 _ e (refl, refl, omega arith, omega arith, omega arith)) c.in-3.is
 
 pub returns-in-4 : goal.returns-in-4
 unfolding BodyIn is_kind body_of
-returns-in-4 c = moved 10 4 _ c.in-4.keys4 (refl, refl, omega arith, omega arith, omega arith)
+returns-in-4 c = moved 10 4 _ c.in-4.is (refl, refl, omega arith, omega arith, omega arith)
 
 pub returns-in-5 : goal.returns-in-5
 unfolding BodyIn is_kind body_of
-returns-in-5 c = ⊎_elim (λ e. moved 2 5 _ e (refl, refl, omega arith, omega arith, omega arith)) (λ e. moved 2 8 _ e (refl, refl, omega arith, omega arith, omega arith)) c.in-5.keys5
+returns-in-5 c = ⊎_elim (λ e. moved 2 5 _ e (refl, refl, omega arith, omega arith, omega arith)) (λ e. moved 2 8 _ e (refl, refl, omega arith, omega arith, omega arith)) c.in-5.is
 
 pub returns-in-7 : goal.returns-in-7
 unfolding BodyIn is_kind body_of
-returns-in-7 c = moved 5 7 _ c.in-7.keys6 (refl, refl, omega arith, omega arith, omega arith)
+returns-in-7 c = moved 5 7 _ c.in-7.is (refl, refl, omega arith, omega arith, omega arith)
 
 pub returns-in-0 : goal.returns-in-0
-returns-in-0 c = no_kind _ (λ p. omega (arith, c.in-0.keys7))
+returns-in-0 c = no_kind _ (λ p. omega arith)
 
 pub returns-in-0-2 : goal.returns-in-0-2
-returns-in-0-2 c =
-    no_kind _ (λ p.
-    let r = c.in-0.rest in
-    let one = past 0 _ p.0 (λ e. r.0.0.0.0.0.0.1 (inl e)) r.0.0.0.0.0.1 (λ e. r.0.0.0.0.1 (inl e)) in
-    let two = past 3 _ one r.0.0.0.1 (λ e. r.0.0.1 (inl e)) (λ e. r.0.0.0.0.1 (inr e)) in
-    let three = past 6 _ two r.0.1 (λ e. r.0.0.1 (inr e)) (λ e. r.0.0.0.0.0.0.1 (inr e)) in
-    omega (arith, three, p.1))
+returns-in-0-2 c = no_kind _ (λ p. grind arith)

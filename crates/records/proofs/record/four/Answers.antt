@@ -1,6 +1,5 @@
 -- `records::record::four` meets its contract: four bytes are two pairs of bytes. Assumes nothing.
 use Rattle.meaning.proofs.records.Reading.{number_four}
-use borrow.Author.Rules.{rules}
 use native.Mathlib.Omega.{arith}
 use Rattle.records.proofs.record.four.Goals as goal
 

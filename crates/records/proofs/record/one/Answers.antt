@@ -1,8 +1,7 @@
 -- `records::record::one` meets its contract: a byte is below 256. Assumes nothing.
 use Rattle.meaning.proofs.records.Reading.{byte}
-use borrow.Author.Rules.{rules}
 use native.Mathlib.Omega.{arith}
 use Rattle.records.proofs.record.one.Goals as goal
 
 pub returns : goal.returns
-returns c = byte c.args.s.now c.args.i (omega (arith, c.shared_slice_known-1.given c.args.i))
+returns c = byte c.args.s.now c.args.i (omega (arith, c.type_inv.s c.args.i))

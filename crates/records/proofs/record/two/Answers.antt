@@ -1,21 +1,8 @@
 -- `records::record::two` meets its contract: a byte is below 256, so that its remainder by 256 is itself. Assumes nothing.
 use Prim.Native.Nat.{◌+◌}
 use Rattle.meaning.proofs.records.Reading.{number_two}
-use borrow.Author.Rules.{rules}
 use native.Mathlib.Omega.{arith}
 use Rattle.records.proofs.record.two.Goals as goal
 
-pub overflow_cast-result : goal.overflow_cast-result
-overflow_cast-result c = omega (arith, c.shared_slice_known-1.given c.args.i)
-
-pub overflow_mul-result : goal.overflow_mul-result
-overflow_mul-result c = omega (arith, c.shared_slice_known-1.given c.args.i)
-
-pub overflow_cast-result-2 : goal.overflow_cast-result-2
-overflow_cast-result-2 c = omega (arith, c.shared_slice_known-2-1.given (c.args.i + 1))
-
-pub overflow_add-result-2 : goal.overflow_add-result-2
-overflow_add-result-2 c = omega (arith, c.shared_slice_known-1.given c.args.i, c.shared_slice_known-1.given (c.args.i + 1))
-
 pub returns : goal.returns
-returns c = omega (arith, number_two c.args.s.now c.args.i, c.shared_slice_known-1.given c.args.i, c.shared_slice_known-1.given (c.args.i + 1))
+returns c = omega (arith, number_two c.args.s.now c.args.i, c.type_inv.s c.args.i, c.type_inv.s (c.args.i + 1))
