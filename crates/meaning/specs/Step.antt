@@ -11,7 +11,7 @@ use Rattle.meaning.specs.declared.Answer.{Answer}
 use Rattle.meaning.specs.declared.Answer.TheVariants.{End, Refused, Ok, Changed}
 use Rattle.meaning.specs.Search.{pick, any_below}
 use Rattle.meaning.specs.Hall.{Plan, State, source_of, link_word}
-use Rattle.meaning.specs.Rule.{span, rule_word, live, link_of, rank, lower, upper, overlap}
+use Rattle.meaning.specs.Rule.{span, rule_word, live, rank, lower, upper, overlap}
 use Rattle.meaning.specs.Winner.{rule_at, node_for}
 use Rattle.meaning.specs.Atoms.{with_cut, is_boundary}
 use Rattle.meaning.specs.Changes.{entry_words, changed_places, entries_at}

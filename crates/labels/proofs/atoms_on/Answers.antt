@@ -1,5 +1,5 @@
 -- `label::atoms_on` meets its contract. The loop's invariant: `n` counts the atoms of the words passed. Assumes nothing.
-use Prim.Native.Nat.{ℕ, ◌+◌, ◌*◌, ◌-◌, ◌≤◌}
+use Prim.Native.Nat.{ℕ, ◌+◌, ◌*◌}
 use Rattle.lent.proofs.LabelWords.{count_word}
 use Rattle.meaning.proofs.base.Search.{count_le}
 use Rattle.meaning.specs.Labels.{on, how_many}
@@ -21,20 +21,17 @@ loop-i-init c = (search rules, refl)
 
 pub overflow_add-n-in-loop-i : goal.overflow_add-n-in-loop-i
 overflow_add-n-in-loop-i c =
-    let p = c in
-    let a = p.args in
-    omega (arith, ones-le 64 _ (c.shared_slice_known-1.given (8 * a.link + p.loop-i.i)).fits, count_le (on a.label.now a.link) (64 * p.loop-i.i))
+    let a = c.args in
+    omega (arith, ones-le 64 _ (c.type_inv.s (8 * a.link + c.loop-i.i)).fits, count_le (on a.label.now a.link) (64 * c.loop-i.i))
 
 pub loop-i-preserved : goal.loop-i-preserved
 loop-i-preserved c =
-    let p = c in
-    let a = p.args in
-    (search rules, omega (arith, count_word a.label.now a.link p.loop-i.i (c.shared_slice_known-1.given (8 * a.link + p.loop-i.i)).fits))
+    let a = c.args in
+    (search rules, omega (arith, count_word a.label.now a.link c.loop-i.i (c.type_inv.s (8 * a.link + c.loop-i.i)).fits))
 
 pub returns : goal.returns
 unfolding how_many
 returns c =
-    let b = c in
-    let a = b.args in
+    let a = c.args in
     let e : c.loop-i.i ≡ 8 = omega arith in
-    rw (lt-ltb _ _ b.if-link-ge64.false) (c.loop-i.invariant.1 ∙ ap (λ (x : ℕ). count_below (64 * x) (on a.label.now a.link)) e)
+    rw (lt-ltb _ _ c.if-link-ge64.false) (c.loop-i.invariant.1 ∙ ap (λ (x : ℕ). count_below (64 * x) (on a.label.now a.link)) e)

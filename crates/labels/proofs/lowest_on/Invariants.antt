@@ -1,16 +1,8 @@
 -- `label::lowest_on` meets its contract. The loop's invariant: no atom of the words passed is on the link. Assumes nothing.
-use Prim.Native.Nat.{ℕ, ◌+◌, ◌*◌, ◌-◌, ◌≤◌, ◌<◌}
-use Rattle.lent.proofs.LabelWords.{none_below, there}
-use Rattle.meaning.proofs.base.Search.{lowest_off, lowest_first}
-use Rattle.meaning.specs.Labels.{on, lowest_on}
-use Rattle.meaning.specs.Search.{found}
-use borrow.Author.Rules.{rules}
-use borrow.Author.Tests.{lt-ltb, le-ltb}
-use lib.Count.{trailing_le}
-use lib.ListN.{get_or}
+use Prim.Native.Nat.{ℕ, ◌*◌, ◌-◌, ◌≤◌, ◌<◌}
+use Rattle.meaning.specs.Labels.{on}
 use mathlib.Core.Bool.{false}
-use mathlib.Core.Path.{◌≡◌, sym}
-use native.Mathlib.Omega.{arith}
+use mathlib.Core.Path.{◌≡◌}
 use Rattle.labels.proofs.lowest_on.Given as goal
 
 abbrev pub invariant-loop-i : goal.invariant-loop-i

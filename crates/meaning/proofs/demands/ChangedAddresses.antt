@@ -15,7 +15,7 @@ use Rattle.meaning.specs.Rule.{rule_word, lower, upper}
 use Rattle.meaning.specs.Winner.{rule_at, winner, link_for, next_at, node_for}
 use Rattle.meaning.specs.Atoms.{place_of, with_cut}
 use Rattle.meaning.specs.Changes.{link_or_none, changed_at, changed_places, entry_at, entries_at}
-use Rattle.meaning.specs.Records.{link, Update, insert, remove}
+use Rattle.meaning.specs.Records.{Update, insert, remove}
 use Rattle.meaning.specs.Step.{update_refusal, with_rule, inserted, updated, node_of, listed, changes, step_of}
 use Rattle.meaning.specs.Run.{Came, more}
 use Rattle.meaning.specs.Tables.{Cuts, Holds, Sound}

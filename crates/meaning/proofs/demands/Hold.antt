@@ -16,8 +16,8 @@ use Rattle.meaning.specs.Rule.{link_of}
 use Rattle.meaning.specs.Winner.{rule_at, winner, link_for, next_at}
 use Rattle.meaning.specs.Labels.{on, labels_of}
 use Rattle.meaning.specs.Questions.{loops_at, circle_at, some_node, loop_from, asked, fate_of, by_address}
-use Rattle.meaning.specs.Records.{number, loop, fate, reach, tally, sort_of}
-use Rattle.meaning.specs.Step.{changes, question_refusal, only, step_of}
+use Rattle.meaning.specs.Records.{loop, fate, reach, tally, sort_of}
+use Rattle.meaning.specs.Step.{question_refusal, step_of}
 use Rattle.meaning.specs.Run.{Came}
 use Rattle.meaning.specs.Box.{Left, left_of}
 use Rattle.meaning.specs.declared.Record.TheVariants.{Loop as AskLoop, Fate as AskFate, Reach as AskReach, Tally as AskTally}

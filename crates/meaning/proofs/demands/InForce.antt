@@ -15,7 +15,7 @@ use Rattle.meaning.specs.Hall.{State, empty, fresh}
 use Rattle.meaning.specs.Winner.{rule_at}
 use Rattle.meaning.specs.Atoms.{with_cut}
 use Rattle.meaning.specs.Questions.{by_address}
-use Rattle.meaning.specs.Records.{record_of, link, Update, insert, remove, Sort, set_up, update, question, sort_of}
+use Rattle.meaning.specs.Records.{record_of, Update, insert, remove, Sort, set_up, update, question, sort_of}
 use Rattle.meaning.specs.Step.{Done, update_refusal, with_rule, inserted, updated, leaves, only, answers, accepted, step_of}
 use Rattle.meaning.specs.Run.{Came, start, more}
 use Rattle.meaning.specs.Tables.{Sound}

@@ -5,7 +5,7 @@ use mathlib.Core.Logic.{◌↔◌, ◌⊎◌, inl, inr, ⊎_elim}
 use mathlib.Core.Bool.{Bool, true, false, not, ◌&&◌, ◌||◌, true≢false}
 use mathlib.Core.Option.{Option, none, some}
 use mathlib.Core.List.{List, [], ◌∷◌}
-use Prim.Native.Nat.{ℕ, ◌+◌, ◌-◌, ◌%◌, ◌≤◌, ◌<◌}
+use Prim.Native.Nat.{ℕ, ◌+◌, ◌%◌, ◌≤◌, ◌<◌}
 use native.Mathlib.Omega.{arith}
 use lib.Dec.{leb, ltb, eqb}
 use lib.ListN.{length}
@@ -18,7 +18,7 @@ use Rattle.meaning.specs.Hall.{top, State, source_of}
 use Rattle.meaning.specs.Rule.{rule_word, live, rank, lower, upper, span}
 use Rattle.meaning.specs.Winner.{rule_at, node_for}
 use Rattle.meaning.specs.Questions.{loops_at, circle_at, some_node, loop_from, reaches_at, reach_from, asked, by_address}
-use Rattle.meaning.specs.Records.{number, is_kind, body_of, record_of, read_of, link, Question, loop, fate, reach, tally, Sort, set_up, update, question, sort_of, phase_of}
+use Rattle.meaning.specs.Records.{is_kind, body_of, record_of, read_of, Question, loop, fate, reach, tally, Sort, set_up, update, question, sort_of, phase_of}
 use Rattle.meaning.specs.Step.{list_room, when, set_up_refusal, ragged, clashes, added, update_refusal, question_refusal, refusal, turned_by, only, answers, accepted, taken, step_for, step_with, step_of}
 use Rattle.meaning.specs.Run.{Came}
 use Rattle.meaning.specs.declared.Record.TheVariants.{Hall, Link, Close, Insert, Remove, Loop as AskLoop, Fate as AskFate, Reach as AskReach, Tally as AskTally}

@@ -11,7 +11,7 @@ use Rattle.meaning.specs.Winner.{rule_at, eligible, winner, link_for, next_at}
 use Rattle.meaning.specs.Atoms.{with_cut}
 use Rattle.meaning.specs.Changes.{changed_at, changed_places, entry_at, entries_at}
 use Rattle.meaning.specs.Questions.{by_address}
-use Rattle.meaning.specs.Records.{number, link, Update, insert, remove, Sort, set_up, update, question}
+use Rattle.meaning.specs.Records.{Update, insert, remove, Sort, set_up, update, question}
 use Rattle.meaning.specs.Step.{Done, clashes, added, update_refusal, with_rule, inserted, updated, node_of, listed, changes, refusal, turned_by, leaves, writes, only, answers, accepted, step_of}
 use Rattle.meaning.proofs.atoms.ChangeList.{places_same}
 use Rattle.meaning.proofs.rules.Covers.{SameRules}

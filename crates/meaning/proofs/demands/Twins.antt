@@ -16,7 +16,7 @@ use Rattle.meaning.specs.Rule.{rule_word, live, link_of, length_of, rank, lower}
 use Rattle.meaning.specs.Winner.{rule_at, eligible, winner, link_for, next_at}
 use Rattle.meaning.specs.Atoms.{with_cut}
 use Rattle.meaning.specs.Questions.{fate_of, loops_at, circle_at, loop_from, reaches_at, asked, by_address}
-use Rattle.meaning.specs.Records.{number, link, Update, insert, remove, Question, loop, fate, reach, tally, Sort, set_up, update, question, is_question}
+use Rattle.meaning.specs.Records.{Update, insert, remove, Question, loop, fate, reach, tally, Sort, set_up, update, question, is_question}
 use Rattle.meaning.specs.Step.{list_room, Done, update_refusal, with_rule, inserted, updated, question_refusal, refusal, turned_by, leaves, only, answers, accepted, step_of}
 use Rattle.meaning.specs.Run.{Came, start}
 use Rattle.meaning.specs.Tables.{Sound}

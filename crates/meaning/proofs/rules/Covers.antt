@@ -2,7 +2,7 @@
 use mathlib.Core.Path.{◌≡◌, refl, ap₂}
 use mathlib.Core.Logic.{◌↔◌, ⊎_elim}
 use mathlib.Core.Bool.{true, ◌&&◌, and_comm}
-use Prim.Native.Nat.{ℕ, ◌-◌, ◌≤◌, ◌<◌}
+use Prim.Native.Nat.{ℕ, ◌≤◌, ◌<◌}
 use native.Mathlib.Omega.{arith}
 use lib.Pow.{pow_pos}
 use lib.Dec.{leb, ltb}
