@@ -7,7 +7,7 @@ use native.Mathlib.Omega.{arith}
 use Rattle.tables.proofs.atom.insert_cut.Goals as goal
 
 pub loop-j-init : goal.loop-j-init
-loop-j-init c = shift_start _ _ _ _ (omega arith) (λ q h. c.requires.0.rest q (omega arith))
+loop-j-init c = shift_start _ _ _ _ (omega arith) (λ q h. c.requires.cuts.rest q (omega arith))
 
 pub loop-j-preserved : goal.loop-j-preserved
 loop-j-preserved c = shift_step c.loop-j.invariant

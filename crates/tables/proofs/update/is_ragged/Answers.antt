@@ -8,10 +8,6 @@ use lib.Pow.{pow_pos}
 use native.Mathlib.Omega.{arith}
 use Rattle.tables.proofs.update.is_ragged.Goals as goal
 
--- NO GOAL
-rem-result : tie.Need-nonzero-rem-result
-rem-result c = rw (shifted 64 (ipv4 - c.args.length) (omega arith)) (pow_pos (ipv4 - c.args.length))
-
 pub returns : goal.returns
 unfolding ragged
 returns c = rw (shifted 64 (ipv4 - c.args.length) (omega arith))
