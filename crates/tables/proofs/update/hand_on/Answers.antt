@@ -9,11 +9,6 @@ use mathlib.Core.Path.{◌≡◌, refl, ◌∙◌}
 use native.Mathlib.Omega.{arith}
 use Rattle.tables.proofs.update.hand_on.Goals as goal
 
--- LOOK
--- in the loop p is below t
-below : (i : goal.In-loop invariant-loop decreases-loop) → i.loop.p < i.args.t.0
-below i = rw i.end_of_lem.ensures at i.loop-test.true
-
 pub loop-p-init : goal.loop-p-init
 loop-p-init c = (search rules, omega (arith, c.requires.0.order), refl, swept_none)
 
