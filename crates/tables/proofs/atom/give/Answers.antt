@@ -1,6 +1,5 @@
 -- `atom::give` meets its contract. The loop's invariant: the owners at the nodes passed are given. Assumes nothing.
-use Prim.Native.Nat.{◌-◌, ◌≤◌}
-use Rattle.tables.proofs.Gives.{Giving, give_start, give_none, give_put, give_end}
+use Rattle.tables.proofs.Gives.{give_start, give_none, give_put, give_end}
 use borrow.Author.Rules.{rules}
 use native.Mathlib.Omega.{arith}
 use Rattle.tables.proofs.atom.give.Goals as goal
@@ -17,8 +16,9 @@ loop-v-preserved c =
       search rules,
       rw (i, c.owner_index-in-loop-v.ensures.0)
           (elim c.if-e-ne0.branch [
-            then-e-ne0 w ↦ rw w.label-is (give_put G (search rules) p.2 p.1 p.3 (rw i at w.if-e-ne0.true) (rw i at w.put.ensures)) |
-            else-e-ne0 w ↦ rw w.label-is (give_none G (search rules) p.2 p.1 p.3 (rw i at w.if-e-ne0.false)) ]),
+            | then-e-ne0 w ↦ rw w.label-is (give_put G (search rules) p.2 p.1 p.3 (rw i at w.if-e-ne0.true) (rw i at w.put.ensures))
+            | else-e-ne0 w ↦ rw w.label-is (give_none G (search rules) p.2 p.1 p.3 (rw i at w.if-e-ne0.false))
+          ]),
     )
 
 pub returns : goal.returns

@@ -1,8 +1,6 @@
 -- `atom::insert_cut` meets its contract. The loop's invariant: to put what is carried in at j is to put b in at p of the list at entry.
 -- Past the used part all is 0. Assumes nothing.
-use Prim.Native.Nat.{◌+◌, ◌-◌}
-use Rattle.meaning.proofs.base.InsertAt.{Shifting, shift_start, shift_step, shift_end}
-use borrow.Author.Rules.{rules}
+use Rattle.meaning.proofs.base.InsertAt.{shift_start, shift_step, shift_end}
 use native.Mathlib.Omega.{arith}
 use Rattle.tables.proofs.atom.insert_cut.Goals as goal
 

@@ -1,5 +1,5 @@
 -- `atom::make_boundary` meets its contract: b was a boundary, or it lies within the atom at its place, which is split. Assumes nothing.
-use Rattle.tables.proofs.Splits.{was_cut, Inner, inner, split_kept, kept_whole, split_made, made_whole}
+use Rattle.tables.proofs.Splits.{was_cut, inner, split_kept, kept_whole, split_made, made_whole}
 use borrow.Author.Rules.{rules}
 use native.Mathlib.Omega.{arith}
 use Rattle.tables.proofs.atom.make_boundary.Goals as goal

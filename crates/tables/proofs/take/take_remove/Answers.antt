@@ -1,12 +1,9 @@
 -- `tables::take::take_remove` meets its contract: a remove is refused as its checks say, or leaves what the update leaves. Assumes nothing.
 use Rattle.lent.proofs.Labelled.{held_whole}
 use Rattle.lent.proofs.Steps.{short_leaves, disorder_leaves, order_leaves, turned_takes, update_takes}
-use Rattle.meaning.specs.Box.{state_of}
-use Rattle.meaning.specs.Records.{remove, sort_of, phase_of}
-use Rattle.meaning.specs.Step.{checked, update_refusal, refusal}
-use borrow.Author.Rules.{rules}
-use mathlib.Core.Option.{none}
-use mathlib.Core.Path.{◌≡◌, refl, sym, ap, ◌∙◌}
+use Rattle.meaning.specs.Records.{sort_of, phase_of}
+use Rattle.meaning.specs.Step.{checked, refusal}
+use mathlib.Core.Path.{refl, sym, ◌∙◌}
 use Rattle.tables.proofs.take.take_remove.Goals as goal
 
 pub returns-then-list-lt-LIST_ROOM : goal.returns-then-list-lt-LIST_ROOM

@@ -5,7 +5,6 @@ use Rattle.meaning.specs.Box.{state_of}
 use Rattle.meaning.specs.Step.{checked}
 use Rattle.meaning.specs.Winner.{rule_at}
 use Rattle.tables.proofs.Rules.{Tried, insert_ties, insert_full, insert_passes}
-use borrow.Author.Rules.{rules}
 use mathlib.Core.List.{List}
 use mathlib.Core.Path.{sym, ◌∙◌}
 use native.Mathlib.Omega.{arith}

@@ -16,10 +16,9 @@ use Rattle.meaning.specs.Rule.{rule_word, link_of, rank, lower, upper}
 use Rattle.meaning.specs.Step.{with_rule, inserted, updated, node_of}
 use Rattle.tables.proofs.Updated.{cut_as, split_is, split_whole, numbered, ready, listed_as, taken_in}
 use Rattle.tables.specs.Rows.{Split}
-use borrow.Author.Rules.{rules}
 use mathlib.Core.Bool.{false}
 use mathlib.Core.List.{List}
-use mathlib.Core.Path.{◌≡◌, refl, sym, ap, ap₂, ◌∙◌, subst⁻¹}
+use mathlib.Core.Path.{◌≡◌, refl, sym, ap, ◌∙◌, subst⁻¹}
 use native.Mathlib.Omega.{arith}
 use Rattle.tables.proofs.update.insert.Goals as goal
 use Rattle.tables.proofs.update.insert.Goals.{Start, After-make_boundary-n}

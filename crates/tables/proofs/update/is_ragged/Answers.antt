@@ -3,8 +3,6 @@ use Prim.Native.Nat.{◌-◌}
 use Rattle.meaning.proofs.base.Bits.{shifted}
 use Rattle.meaning.specs.Hall.{ipv4}
 use Rattle.meaning.specs.Step.{ragged}
-use borrow.Author.Rules.{rules}
-use lib.Pow.{pow_pos}
 use native.Mathlib.Omega.{arith}
 use Rattle.tables.proofs.update.is_ragged.Goals as goal
 

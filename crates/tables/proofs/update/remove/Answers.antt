@@ -11,7 +11,6 @@ use Rattle.meaning.specs.Rule.{link_of}
 use Rattle.meaning.specs.Step.{with_rule, updated, node_of}
 use Rattle.meaning.specs.Winner.{rule_at}
 use Rattle.tables.proofs.Updated.{ready, listed_as, taken_out}
-use borrow.Author.Rules.{rules}
 use lib.ListN.{get_or}
 use mathlib.Core.Path.{◌≡◌, refl, ap, ◌∙◌}
 use native.Mathlib.Omega.{arith}
