@@ -1,5 +1,4 @@
 -- `atom::atom_at` meets its contract: within the table the number there, and past its end 0. Assumes nothing.
-use borrow.Author.Rules.{rules}
 use lib.ListN.{get_or-eq_default}
 use mathlib.Core.Path.{sym}
 use Rattle.tables.proofs.atom.atom_at.Goals as goal

@@ -1,6 +1,5 @@
 -- `atom::atom_of` meets its contract: the number at the address's place. Assumes nothing.
 use Rattle.lent.proofs.Labelled.{held_whole}
-use borrow.Author.Rules.{rules}
 use Rattle.tables.proofs.atom.atom_of.Goals as goal
 
 pub place_of-p-requires : goal.place_of-p-requires

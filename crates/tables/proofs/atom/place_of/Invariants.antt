@@ -1,9 +1,6 @@
 -- `atom::place_of` meets its contract. The loop's invariant: the answer lies from low to below high. Assumes nothing.
-use Prim.Native.Nat.{◌+◌, ◌-◌, ◌/◌, ◌≤◌, ◌<◌}
-use Rattle.meaning.proofs.atoms.Cuts.{place_le, place_max, place_lt}
+use Prim.Native.Nat.{◌+◌, ◌-◌, ◌≤◌, ◌<◌}
 use Rattle.meaning.specs.Atoms.{place_of}
-use borrow.Author.Rules.{rules}
-use native.Mathlib.Omega.{arith}
 use Rattle.tables.proofs.atom.place_of.Given as goal
 
 abbrev pub invariant-loop-low : goal.invariant-loop-low

@@ -1,5 +1,4 @@
 -- `link::source_of` meets its contract. Assumes nothing.
-use borrow.Author.Rules.{rules}
 use mathlib.Core.Path.{refl}
 use native.Mathlib.Omega.{arith}
 use Rattle.tables.proofs.link.source_of.Goals as goal

@@ -1,11 +1,6 @@
 -- `rule::best_among` meets its contract. The loop's invariant: the best of the first j. Assumes nothing.
-use Prim.Native.Nat.{◌-◌, ◌≤◌}
-use Rattle.meaning.specs.Hall.{ipv4}
-use Rattle.meaning.specs.Rule.{rank, covers}
 use Rattle.tables.proofs.Rules.{best_in_none, best_in_more}
-use Rattle.tables.specs.Gathered.{best_in}
 use borrow.Author.Rules.{rules}
-use lib.ListN.{get_or}
 use mathlib.Core.Path.{◌≡◌}
 use native.Mathlib.Omega.{arith}
 use Rattle.tables.proofs.rule.best_among.Goals as goal

@@ -2,12 +2,9 @@
 use Prim.Native.Nat.{◌-◌, ◌≤◌}
 use Rattle.meaning.specs.Hall.{ipv4}
 use Rattle.meaning.specs.Rule.{rank, covers}
-use Rattle.tables.proofs.Rules.{best_in_none, best_in_more}
 use Rattle.tables.specs.Gathered.{best_in}
-use borrow.Author.Rules.{rules}
 use lib.ListN.{get_or}
 use mathlib.Core.Path.{◌≡◌}
-use native.Mathlib.Omega.{arith}
 use Rattle.tables.proofs.rule.best_among.Given as goal
 
 abbrev pub invariant-loop-j : goal.invariant-loop-j

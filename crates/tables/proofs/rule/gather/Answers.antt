@@ -1,10 +1,7 @@
 -- `rule::gather` meets its contract. The loop's invariant: the rules below i, four times as many as there were rounds, are gathered. Assumes nothing.
-use Prim.Native.Nat.{◌+◌, ◌-◌, ◌%◌, ◌≤◌}
-use Rattle.meaning.specs.Hall.{ipv4}
+use Prim.Native.Nat.{◌+◌}
 use Rattle.tables.proofs.Rules.{gathered_none, gathered_to}
-use Rattle.tables.specs.Gathered.{Marks, Gathering}
 use borrow.Author.Rules.{rules}
-use mathlib.Core.Path.{◌≡◌}
 use native.Mathlib.Omega.{arith}
 use Rattle.tables.proofs.rule.gather.Goals as goal
 

@@ -1,7 +1,5 @@
 -- `rule::lacks_rank` meets its contract. The loop's invariant: while the highest bit stays, no word below i has the rank. Assumes nothing.
-use Prim.Native.Nat.{◌-◌, ◌≤◌}
-use Rattle.meaning.specs.Hall.{ipv4}
-use Rattle.tables.proofs.Rules.{Lacks, lacks_none, lacks_more}
+use Rattle.tables.proofs.Rules.{lacks_none, lacks_more}
 use borrow.Author.Rules.{rules}
 use borrow.Author.Tests.{leb-true}
 use mathlib.Core.Path.{◌≡◌}

@@ -1,6 +1,5 @@
 -- `rule::overlaps` meets its contract. Assumes nothing.
 use Rattle.tables.proofs.Rules.{overlaps_if, overlaps_not}
-use borrow.Author.Rules.{rules}
 use Rattle.tables.proofs.rule.overlaps.Goals as goal
 
 pub returns-then-lower_of-upper_of : goal.returns-then-lower_of-upper_of

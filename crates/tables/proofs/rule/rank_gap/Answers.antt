@@ -1,6 +1,5 @@
 -- `rule::rank_gap` meets its contract. Assumes nothing.
 use Rattle.tables.proofs.Rules.{same_rank}
-use borrow.Author.Rules.{rules}
 use native.Mathlib.Omega.{arith}
 use Rattle.tables.proofs.rule.rank_gap.Goals as goal
 

@@ -1,7 +1,6 @@
 -- `rule::stands_at` meets its contract. Assumes nothing.
 use Prim.Native.Nat.{ℕ, ◌/◌}
 use Rattle.tables.proofs.Rules.{not_standing, stands_there}
-use borrow.Author.Rules.{rules}
 use lib.ListN.{get_or}
 use mathlib.Core.Path.{ap, ◌∙◌}
 use Rattle.tables.proofs.rule.stands_at.Goals as goal

@@ -7,9 +7,7 @@ use Rattle.tables.proofs.rule.take_in.Goals as goal
 
 pub returns-then-overlaps : goal.returns-then-overlaps
 returns-then-overlaps c =
-    let o = c in
-    let s = o in
-    (search rules, λ link v m g. gathered_take g (search rules) (sym (stands_marked _ link v _ _ _ m s.Stands-on.ensures) ∙ o.if-stands_on.true))
+    (search rules, λ link v m g. gathered_take g (search rules) (sym (stands_marked _ link v _ _ _ m c.stands_on.ensures) ∙ c.if-stands_on.true))
 
 pub returns-else-overlaps : goal.returns-else-overlaps
 returns-else-overlaps c = (search rules, λ link v m g. gathered_skip g (λ _ e. true≢false (sym e ∙ sym c.overlaps.ensures ∙ c.if-overlaps.false)))
@@ -17,5 +15,5 @@ returns-else-overlaps c = (search rules, λ link v m g. gathered_skip g (λ _ e.
 pub returns-else-stands_on : goal.returns-else-stands_on
 returns-else-stands_on c = (
   search rules,
-  λ link v m g. gathered_skip g (λ e _. true≢false (sym e ∙ sym (stands_marked _ link v _ _ _ m c.Stands-on.ensures) ∙ c.if-stands_on.false)),
+  λ link v m g. gathered_skip g (λ e _. true≢false (sym e ∙ sym (stands_marked _ link v _ _ _ m c.stands_on.ensures) ∙ c.if-stands_on.false)),
 )

@@ -1,13 +1,8 @@
 -- `rule::ties` meets its contract. The loop's invariant: none of the rules below i ties. Assumes nothing.
-use Prim.Native.Nat.{◌-◌, ◌≤◌}
 use Rattle.meaning.proofs.base.Search.{any_true, any_none, any_more}
-use Rattle.meaning.specs.Hall.{ipv4}
-use Rattle.meaning.specs.Search.{any_below}
 use Rattle.tables.proofs.Rules.{ties_nowhere}
-use Rattle.tables.specs.Gathered.{tying}
 use borrow.Author.Rules.{rules}
-use lib.ListN.{get_or}
-use mathlib.Core.Bool.{false, ◌||◌}
+use mathlib.Core.Bool.{◌||◌}
 use mathlib.Core.Path.{◌≡◌, sym, ap₂, ◌∙◌}
 use native.Mathlib.Omega.{arith}
 use Rattle.tables.proofs.rule.ties.Goals as goal

@@ -1,6 +1,5 @@
 -- `rule::ties_with` meets its contract. Assumes nothing.
 use Rattle.tables.proofs.Rules.{ties_apart, ties_if, ties_elsewhere}
-use borrow.Author.Rules.{rules}
 use mathlib.Core.Path.{sym, ◌∙◌}
 use Rattle.tables.proofs.rule.ties_with.Goals as goal
 

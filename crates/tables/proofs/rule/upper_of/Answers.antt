@@ -3,7 +3,6 @@ use Prim.Native.Nat.{◌*◌, ◌/◌, ◌%◌, ◌^◌}
 use Rattle.meaning.proofs.base.Bits.{mask, mask_le}
 use Rattle.meaning.specs.Hall.{ipv4}
 use Rattle.meaning.specs.Rule.{free_of, lower, upper}
-use borrow.Author.Rules.{rules}
 use mathlib.Core.Path.{◌≡◌}
 use native.Mathlib.Omega.{arith}
 use Rattle.tables.proofs.rule.upper_of.Goals as goal

@@ -5,11 +5,11 @@ use Rattle.meaning.specs.Box.{state_of}
 use Rattle.meaning.specs.Step.{checked}
 use Rattle.meaning.specs.Winner.{rule_at}
 use Rattle.tables.proofs.Rules.{Tried, insert_ties, insert_full, insert_passes}
-use borrow.Author.Rules.{rules}
 use mathlib.Core.List.{List}
 use mathlib.Core.Path.{sym, ◌∙◌}
 use native.Mathlib.Omega.{arith}
 use Rattle.tables.proofs.update.check_insert.Goals as goal
+use Rattle.tables.proofs.update.check_insert.Goals.{After-ties}
 
 pub returns-then-r-gt255 : goal.returns-then-r-gt255
 unfolding checked
@@ -21,73 +21,46 @@ returns-then-rule-r-ne0 c = λ number. sym (number_live _ _ _ _ _ _ c.if-r-gt255
 
 pub returns-then-h-x : goal.returns-then-h-x
 unfolding checked rule_at
-returns-then-h-x c =
-    let f = c in
-    λ number. sym (link_unknown _ _ _ _ _ _ f.if-r-gt255.false f.if-rule-r-ne0.false c.if-h-x.true)
+returns-then-h-x c = λ number. sym (link_unknown _ _ _ _ _ _ c.if-r-gt255.false c.if-rule-r-ne0.false c.if-h-x.true)
 
 pub returns-then-x-gt32 : goal.returns-then-x-gt32
 unfolding checked rule_at
-returns-then-x-gt32 c =
-    let l = c in
-    let f = l in
-    λ number. sym (length_high _ _ _ _ _ _ f.if-r-gt255.false f.if-rule-r-ne0.false l.if-h-x.false c.if-x-gt32.true)
+returns-then-x-gt32 c = λ number. sym (length_high _ _ _ _ _ _ c.if-r-gt255.false c.if-rule-r-ne0.false c.if-h-x.false c.if-x-gt32.true)
 
 pub returns-then-is_ragged : goal.returns-then-is_ragged
 unfolding checked rule_at
 returns-then-is_ragged c =
-    let n = c in
-    let l = n in
-    let f = l in
-    λ number. sym (prefix_ragged _ _ _ _ _ _ f.if-r-gt255.false f.if-rule-r-ne0.false l.if-h-x.false n.if-x-gt32.false (sym c.is_ragged.ensures ∙ c.if-is_ragged.true))
+    λ number. sym (prefix_ragged _ _ _ _ _ _ c.if-r-gt255.false c.if-rule-r-ne0.false c.if-h-x.false c.if-x-gt32.false (sym c.is_ragged.ensures ∙ c.if-is_ragged.true))
 
--- LOOK
-abbrev start : goal.After-ties → goal.Start
-start s = s
-
--- LOOK
 -- what is known of the state, with any numbers, once code has seen whether a rule ties
-tried : (s : goal.After-ties) (number : List ℕ)
-    → let x = (start s).args in
+tried : (c : After-ties) (number : List ℕ)
+    → let x = c.args in
     Tried (state_of x.h x.link.now x.rule.now x.cut.now number) x.r x.x.link x.x.prefix x.x.length x.x.priority
-    s.source_of-v.result s.pack-w.result s.ties.result
+    c.source_of-v.result c.pack-w.result c.ties.result
 unfolding rule_at
-tried s number =
-    let k = s in
-    let g = k in
-    let n = g in
-    let l = n in
-    let f = l in
-    let d = f in
-    let sized = k.struct-known4.given in
-    record {
-      low = d.if1.false;
-      free = f.if2.false;
-      known = l.if3.false;
-      fits = record { wide = omega arith; link = omega (arith, l.if3.false, d.requires.1); prefix = omega (arith, sized); long = n.if-x-gt32.false; priority = omega (arith, sized) };
-      whole = sym g.is-ragged.ensures ∙ k.if5.false;
-      source = s.source_of-v.ensures.0;
-      word = k.pack.ensures;
-      ties = s.ties.ensures;
-    }
+tried c number = record {
+  low = c.if-r-gt255.false;
+  free = c.if-rule-r-ne0.false;
+  known = c.if-h-x.false;
+  fits = record { wide = omega arith; link = omega (arith, c.requires.1); prefix = omega arith; long = c.if-x-gt32.false; priority = omega arith };
+  whole = sym c.is_ragged.ensures ∙ c.if-is_ragged.false;
+  source = c.source_of-v.ensures.0;
+  word = c.pack-w.ensures;
+  ties = c.ties.ensures;
+}
 
 pub returns-then-ties : goal.returns-then-ties
 unfolding checked
-returns-then-ties c = λ number. insert_ties (tried c number) c.if-ties.true
+returns-then-ties c = λ number. insert_ties (tried (goal.at.returns-then-ties c).After-ties number) c.if-ties.true
 
 pub returns-then-n-more-gt512 : goal.returns-then-n-more-gt512
 unfolding checked
 returns-then-n-more-gt512 c =
-    let q = c in
-    let b = q in
-    let e = b in
     λ number.
-    insert_full (tried e number) e.if-ties.false _ _ _ _ b.lower_of.ensures.0 q.upper_of.ensures.0 b.adds.ensures.0 q.adds-2.ensures.0 c.if-n-more-gt512.true
+    insert_full (tried (goal.at.returns-then-n-more-gt512 c).After-ties number) c.if-ties.false _ _ _ _ c.lower_of.ensures.0 c.upper_of.ensures.0 c.adds.ensures.0 c.adds-2.ensures.0 c.if-n-more-gt512.true
 
 pub returns : goal.returns
 unfolding checked
 returns c =
-    let q = c in
-    let b = q in
-    let e = b in
     λ number.
-    insert_passes (tried e number) e.if-ties.false _ _ _ _ b.lower_of.ensures.0 q.upper_of.ensures.0 b.adds.ensures.0 q.adds-2.ensures.0 c.if-n-more-gt512.false
+    insert_passes (tried (goal.at.returns c).After-ties number) c.if-ties.false _ _ _ _ c.lower_of.ensures.0 c.upper_of.ensures.0 c.adds.ensures.0 c.adds-2.ensures.0 c.if-n-more-gt512.false

@@ -3,7 +3,6 @@ use Prim.Native.Nat.{ℕ}
 use Rattle.meaning.proofs.records.Checks.{remove_high, remove_free, remove_passes}
 use Rattle.meaning.specs.Step.{checked}
 use Rattle.meaning.specs.Winner.{rule_at}
-use borrow.Author.Rules.{rules}
 use lib.ListN.{get_or}
 use mathlib.Core.List.{List}
 use mathlib.Core.Path.{sym, ap, ◌∙◌}

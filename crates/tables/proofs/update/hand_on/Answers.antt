@@ -1,18 +1,10 @@
 -- `update::hand_on` meets its contract. The loop's invariant: the places from f to below p are swept, and the list is as long as it was. Assumes nothing.
-use Prim.Native.Nat.{◌-◌, ◌≤◌, ◌<◌}
-use Rattle.meaning.specs.Hall.{ipv4}
+use Prim.Native.Nat.{◌<◌}
 use Rattle.tables.proofs.Sweeping.{small, may_settle, swept_none, swept_reads, swept_settled}
-use Rattle.tables.specs.Sweep.{owner_by, heir_of, SweptAll}
 use borrow.Author.Rules.{rules}
-use lib.ListN.{length, get_or}
 use mathlib.Core.Path.{◌≡◌, refl, ◌∙◌}
 use native.Mathlib.Omega.{arith}
 use Rattle.tables.proofs.update.hand_on.Goals as goal
-
--- LOOK
--- in the loop p is below t
-below : (i : goal.In-loop invariant-loop decreases-loop) → i.loop.p < i.args.t.0
-below i = rw i.end_of_lem.ensures at i.loop-test.true
 
 pub loop-p-init : goal.loop-p-init
 loop-p-init c = (search rules, omega (arith, c.requires.0.order), refl, swept_none)
@@ -20,26 +12,25 @@ loop-p-init c = (search rules, omega (arith, c.requires.0.order), refl, swept_no
 pub owner_index-requires : goal.owner_index-requires
 owner_index-requires c =
     let r = c.requires.0 in
-    (rw c.atom_at-atom.ensures (small r (below c)), r.node)
+    let b : c.loop-p.p < c.args.t.0 = omega arith in
+    (rw c.atom_at-atom.ensures (small r b), r.node)
 
 pub settle-k-requires : goal.settle-k-requires
 settle-k-requires c =
-    let i = c in
-    let l = i.loop-p.invariant in
-    may_settle i.requires.0 l.0 (below i) l.3 l.2
+    let l = c.loop-p.invariant in
+    let b : c.loop-p.p < c.args.t.0 = omega arith in
+    may_settle c.requires.0 l.0 b l.3 l.2
 
 pub loop-p-preserved : goal.loop-p-preserved
 loop-p-preserved c =
-    let x = c in
-    let o = x in
-    let i = o in
-    let l = i.loop-p.invariant in
-    let r = i.requires.0 in
-    let e = swept_reads r l.0 (below i) l.3 o.atom_at-atom.ensures o.owner_index.ensures.0 in (
+    let l = c.loop-p.invariant in
+    let r = c.requires.0 in
+    let b : c.loop-p.p < c.args.t.0 = omega arith in
+    let e = swept_reads r l.0 b l.3 c.atom_at-atom.ensures c.owner_index.ensures.0 in (
       search rules,
       search rules,
       c.settle-k.ensures.room ∙ l.2,
-      swept_settled r l.0 (below i) l.3 e (rw e at x.heir-new.ensures) c.settle-k.ensures,
+      swept_settled r l.0 b l.3 e (rw e at c.heir-new.ensures) c.settle-k.ensures,
     )
 
 pub shape_of-list : goal.shape_of-list

@@ -1,6 +1,5 @@
 -- `update::heir` meets its contract: one case for each way out. Assumes nothing.
 use Rattle.tables.specs.Sweep.{heir_of}
-use borrow.Author.Rules.{rules}
 use borrow.Author.Tests.{eq-eqb, ne_eqb}
 use Rattle.tables.proofs.update.heir.Goals as goal
 

@@ -1,6 +1,5 @@
 -- `update::higher` meets its contract: one case for each way out. Assumes nothing.
 use Rattle.tables.specs.Sweep.{raised}
-use borrow.Author.Rules.{rules}
 use borrow.Author.Tests.{eq-eqb, ne_eqb, lt-ltb, le-ltb}
 use native.Mathlib.Omega.{arith}
 use Rattle.tables.proofs.update.higher.Goals as goal

@@ -3,14 +3,8 @@ use Prim.Native.Nat.{◌-◌}
 use Rattle.meaning.proofs.base.Bits.{shifted}
 use Rattle.meaning.specs.Hall.{ipv4}
 use Rattle.meaning.specs.Step.{ragged}
-use borrow.Author.Rules.{rules}
-use lib.Pow.{pow_pos}
 use native.Mathlib.Omega.{arith}
 use Rattle.tables.proofs.update.is_ragged.Goals as goal
-
--- NO GOAL
-rem-result : tie.Need-nonzero-rem-result
-rem-result c = rw (shifted 64 (ipv4 - c.args.length) (omega arith)) (pow_pos (ipv4 - c.args.length))
 
 pub returns : goal.returns
 unfolding ragged

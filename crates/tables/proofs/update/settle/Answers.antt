@@ -22,11 +22,11 @@ returns c =
     let u = c.change_owner.ensures in
     record {
       same = λ e. absurd (n e);
-      owners = λ _. u.0;
-      labels = λ _. u.1.0;
-      words = λ _. u.1.1;
+      owners = λ _. u.owner_after;
+      labels = λ _. u.moved;
+      words = λ _. u.list_after;
       more = λ _. refl;
-      size = rw (u.0, length-set);
+      size = rw (u.owner_after, length-set);
       room = search rules;
       near = (search rules, search rules);
     }

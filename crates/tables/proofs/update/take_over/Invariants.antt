@@ -1,12 +1,9 @@
 -- `update::take_over` meets its contract. The loop's invariant: the places from f to below p are swept, and the list is as long as it was. Assumes nothing.
-use Prim.Native.Nat.{◌-◌, ◌≤◌, ◌<◌}
+use Prim.Native.Nat.{◌-◌, ◌≤◌}
 use Rattle.meaning.specs.Hall.{ipv4}
-use Rattle.tables.proofs.Sweeping.{small, may_settle, swept_none, swept_reads, swept_settled}
 use Rattle.tables.specs.Sweep.{owner_by, raised, SweptAll}
-use borrow.Author.Rules.{rules}
 use lib.ListN.{length}
-use mathlib.Core.Path.{◌≡◌, refl, ◌∙◌}
-use native.Mathlib.Omega.{arith}
+use mathlib.Core.Path.{◌≡◌}
 use Rattle.tables.proofs.update.take_over.Given as goal
 
 abbrev pub invariant-loop-p : goal.invariant-loop-p

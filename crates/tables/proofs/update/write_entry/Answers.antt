@@ -1,7 +1,6 @@
 -- `update::write_entry` meets its contract: five stores in a row. Assumes nothing.
 use Prim.Native.Nat.{◌*◌}
 use Rattle.tables.proofs.Sweeping.{wrote}
-use borrow.Author.Rules.{rules}
 use lib.ListN.{length-set}
 use native.Mathlib.Omega.{arith}
 use Rattle.tables.proofs.update.write_entry.Goals as goal
