@@ -1,5 +1,5 @@
 -- What code's answers about one move and about one node mean. Assumes nothing: these are definitions.
-use Rattle.std.specs.Prelude.{◌≡◌, true, false, ℕ, ◌<◌}
+use Rattle.std.specs.Prelude.{◌≡◌, true, ℕ, ◌<◌}
 use Rattle.std.proofs.Math.Option.{Option}
 use Rattle.meaning.specs.Walk.{Position, at, on_circle}
 use Rattle.meaning.proofs.walk.Walks.{Reaches}

@@ -1,6 +1,6 @@
 -- What the functions that carry sets of atoms along links do to a table of such sets: rows of eight words, as a label's, row w for node w.
 -- `out_row` is for the atoms that go out of the hall, `lost_row` for those that are lost. Assumes nothing: these are definitions.
-use Rattle.std.specs.Prelude.{◌≡◌, ◌⊎◌, Bool, true, false, ◌||◌, ◌&&◌, not, List, ℕ, ◌<◌, ◌≤◌, eqb, length, get_or}
+use Rattle.std.specs.Prelude.{◌≡◌, ◌⊎◌, true, false, ◌||◌, ◌&&◌, not, List, ℕ, ◌<◌, ◌≤◌, eqb, length, get_or}
 use Rattle.meaning.specs.Search.{any_below}
 use Rattle.meaning.specs.Labels.{on}
 use Rattle.meaning.specs.Questions.{is_out, is_lost}

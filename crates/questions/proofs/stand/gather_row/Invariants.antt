@@ -1,0 +1,10 @@
+-- `stand::gather_row` meets its contract, word by word. Assumes nothing.
+use Prim.Native.Nat.{◌-◌, ◌≤◌}
+use Rattle.questions.proofs.Standing.{GatheringRow}
+use Rattle.questions.proofs.stand.gather_row.Given as goal
+
+abbrev pub invariant-loop-j : goal.invariant-loop-j
+invariant-loop-j l = (l.j ≤ 8) × GatheringRow l.v l.initial.stand l.stand l.j
+
+abbrev pub decreases-loop-j : goal.decreases-loop-j
+decreases-loop-j l = 8 - l.j
