@@ -1,8 +1,7 @@
 -- A run step by step: what is left to run, over the rest of the bytes, is the run. Assumes nothing.
-use mathlib.Core.Path.{◌≡◌, refl, sym, ap, ◌∙◌, subst}
+use mathlib.Core.Path.{◌≡◌, sym, ap, ◌∙◌, subst}
 use mathlib.Core.List.{List}
-use Prim.Native.Nat.{ℕ, zero, suc, ◌+◌, ◌-◌, ◌≤◌, ◌<◌}
-use native.Mathlib.Numerals.{add-one}
+use Prim.Native.Nat.{ℕ, zero, suc, ◌+◌, ◌-◌, ◌≤◌}
 use native.Mathlib.Omega.{arith}
 use lib.ListN.{length, take, drop, length-drop}
 use borrow.Author.Tests.{ne_eqb}
@@ -16,7 +15,7 @@ use Rattle.meaning.specs.Working.{owners_of}
 use Rattle.meaning.specs.Changes.{overwrite}
 use Rattle.meaning.specs.Questions.{by_address}
 use Rattle.meaning.specs.Step.{Done, step_of}
-use Rattle.meaning.specs.Run.{Ran, run_from, run_of, Came, start}
+use Rattle.meaning.specs.Run.{Ran, run_from, run_of, start}
 use Rattle.meaning.specs.Box.{Held, Left, left, left_by, left_of, ran_by, ran_of}
 use Rattle.meaning.proofs.records.Passed.{passed_few}
 use Rattle.lent.proofs.Steps.{left_passed, left_state, left_list, held_after}

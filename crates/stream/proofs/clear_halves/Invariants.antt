@@ -1,0 +1,10 @@
+-- `stream::clear_halves` meets its contract: the first i entries are 0. Assumes nothing.
+use Rattle.std.proofs.Common.{◌-◌, length}
+use Rattle.stream.proofs.Clears.{Cleared}
+use Rattle.stream.proofs.clear_halves.Given as goal
+
+abbrev pub invariant-loop-i : goal.invariant-loop-i
+invariant-loop-i l = Cleared l.initial.halves l.halves l.i
+
+abbrev pub decreases-loop-i : goal.decreases-loop-i
+decreases-loop-i l = length l.halves - l.i
