@@ -1,51 +1,77 @@
 // hallcheck: reads a stream of records from standard input, at most 65,536 bytes, and prints a line for each record.
 // No contract can say what is read or printed; what each line holds is the contract of the crate `print`.
+// An error of reading or writing ends the program: `main` returns it.
 #![tactic(auto)]
 
-ghost use Rattle.std.specs.Prelude.{◌≡◌, ◌+◌, ◌*◌, ◌≤◌, length};
+ghost use Rattle.std.specs.Prelude.{◌≡◌, ◌+◌, ◌*◌, ◌≤◌, length, IfOk, OnErr};
+ghost use Rattle.std.specs.Io.{ReadsAtMost};
 ghost use Rattle.meaning.specs.Changes.{entry_words};
 ghost use Rattle.meaning.specs.Step.{list_room};
 ghost use Rattle.meaning.specs.Box.{state_of, Held};
 ghost use Rattle.hallcheck.specs.Room.{Room, HasEntries, entries_of};
 
 use meaning::{Answer, Hall};
+use std::io;
+use std::io::Read;
 
-// Whether standard input has a byte more.
-fn is_more() -> bool {
+// Reads until the buffer is full or the input ends, and gives how many bytes it put at the buffer's start.
+fn read_full(input: &mut impl Read, buf: &mut [u8]) -> io::Result<usize>
+    ensures { ReadsAtMost result buf.new }
+{
+    let mut done = 0;
+    while done < buf.len() {
+        let n = input.read(&mut buf[done..])?;
+        if n == 0 {
+            break;
+        }
+        done += n;
+    }
+    Ok(done)
+}
+
+// Whether the input has a byte more.
+fn is_more(input: &mut impl Read) -> io::Result<bool> {
     let mut one = [0u8; 1];
-    io::read_full(0, &mut one) > 0
+    Ok(read_full(input, &mut one)? > 0)
 }
 
 // Writes out what is in the buffer.
-fn write_out(out: &[u8], end: usize)
+fn write_out(rt: &impl Print, out: &[u8], end: usize) -> io::Result<()>
     requires { Room out.now end }
 {
-    io::write_all(1, &out[..end]);
+    rt.write_all(&out[..end])
 }
 
 // Makes room for a line: where there is too little, what is in the buffer is written out. Gives the place to go on at.
-fn make_room(out: &[u8], end: usize) -> usize
+fn make_room(rt: &impl Print, out: &[u8], end: usize) -> io::Result<usize>
     requires { Room out.now end }
-    ensures { result + 128 ≤ length out.now }
+    ensures { IfOk result (λ at. at + 128 ≤ length out.now) }
 {
     if out.len() - end < print::ROOM {
-        write_out(out, end);
-        return 0;
+        write_out(rt, out, end)?;
+        return Ok(0);
     }
-    end
+    Ok(end)
 }
 
-// A line for each of so many entries of the change list.
-fn print_changes(out: &mut [u8], from: usize, list: &[u64], count: usize) -> usize
+// A line for each of so many entries of the change list. After an error the buffer can be filled anew from its start.
+fn print_changes(
+    rt: &impl Print,
+    out: &mut [u8],
+    from: usize,
+    list: &[u64],
+    count: usize,
+) -> io::Result<usize>
     requires room { Room out.old from }
     requires entry_words_in_bounds { count * entry_words ≤ length list.now }
-    ensures { Room out.new result }
+    ensures ok { IfOk result (λ next. Room out.new next) }
+    ensures err { OnErr result (Room out.new 0) }
 {
     let mut end = from;
     let mut i: usize = 0;
     while i < count {
         let at = i * 5;
-        let next = make_room(out, end);
+        let next = make_room(rt, out, end)?;
         end = print::put_change(
             out,
             next,
@@ -57,7 +83,7 @@ fn print_changes(out: &mut [u8], from: usize, list: &[u64], count: usize) -> usi
         );
         i += 1;
     }
-    end
+    Ok(end)
 }
 
 // How many entries of the change list an answer counts.
@@ -70,24 +96,33 @@ fn entries_of(answer: Answer) -> usize
     }
 }
 
-// A record's line, and the entries of its change list. "End" prints nothing.
-fn print_answer(out: &mut [u8], end: usize, place: u64, answer: Answer, list: &[u64]) -> usize
+// A record's line, and the entries of its change list. "End" prints nothing. After an error the buffer can be filled anew from its start.
+fn print_answer(
+    rt: &impl Print,
+    out: &mut [u8],
+    end: usize,
+    place: u64,
+    answer: Answer,
+    list: &[u64],
+) -> io::Result<usize>
     requires room { Room out.old end }
     requires has_entries { HasEntries answer list.now }
-    ensures { Room out.new result }
+    ensures ok { IfOk result (λ next. Room out.new next) }
+    ensures err { OnErr result (Room out.new 0) }
 {
     match answer {
-        Answer::End => end,
+        Answer::End => Ok(end),
         _ => {
-            let at = make_room(out, end);
+            let at = make_room(rt, out, end)?;
             let next = print::put_line(out, at, place, answer);
-            print_changes(out, next, list, entries_of(answer))
+            print_changes(rt, out, next, list, entries_of(answer))
         }
     }
 }
 
 // The lines of all records of the bytes, from a fresh box on.
 fn print_all(
+    rt: &impl Print,
     bytes: &[u8],
     fresh: Hall,
     link: &mut [u16; 64],
@@ -98,7 +133,7 @@ fn print_all(
     owner: &mut [u16; 8192],
     list: &mut [u64],
     out: &mut [u8],
-)
+) -> io::Result<()>
     requires held { Held (state_of fresh link.old rule.old cut.old number.old) label.old owner.old }
     requires list_room_in_bounds { list_room ≤ length list.old }
     requires room { Room out.old 0 }
@@ -111,10 +146,9 @@ fn print_all(
         let rest = &bytes[at..];
         let s = hall::take_record(rest, h, link, rule, cut, number, label, owner, list);
         let answer = s.answer;
-        end = print_answer(out, end, place, answer, list);
+        end = print_answer(rt, out, end, place, answer, list)?;
         if s.passed == 0 {
-            write_out(out, end);
-            return;
+            return write_out(rt, out, end);
         }
         h = s.hall;
         at += s.passed;
@@ -123,7 +157,7 @@ fn print_all(
 }
 
 // Lends the tables, the change list and the output buffer.
-fn check(bytes: &[u8]) {
+fn check(rt: &impl Print, bytes: &[u8]) -> io::Result<()> {
     let mut link = [0u16; 64];
     let mut rule = [0u64; 256];
     let mut cut = [0u64; 513];
@@ -131,7 +165,7 @@ fn check(bytes: &[u8]) {
     let mut label = [0u64; 512];
     let mut owner = [0u16; 8192];
     let mut list = [0u64; meaning::LIST_ROOM];
-    let mut out = io::large_buffer();
+    let mut out = [0u8; 65536];
     let fresh = stream::clear_box(
         &mut link,
         &mut rule,
@@ -141,6 +175,7 @@ fn check(bytes: &[u8]) {
         &mut owner,
     );
     print_all(
+        rt,
         bytes,
         fresh,
         &mut link,
@@ -151,15 +186,15 @@ fn check(bytes: &[u8]) {
         &mut owner,
         &mut list,
         &mut out,
-    );
+    )
 }
 
-fn main() {
-    let mut input = io::large_buffer();
-    let n = io::read_full(0, &mut input);
-    if n == 65536 && is_more() {
-        io::write_all(1, b"long\n");
-        return;
+fn main(rt: HostRuntime) -> io::Result<()> {
+    let mut stdin = rt.stdin();
+    let mut input = [0u8; 65536];
+    let n = read_full(&mut stdin, &mut input)?;
+    if n == 65536 && is_more(&mut stdin)? {
+        return rt.write_all(b"long\n");
     }
-    check(&input[..n]);
+    check(&rt, &input[..n])
 }

@@ -5,12 +5,13 @@
 #![tactic(auto)]
 
 use meaning::Answer;
+use std::io;
 
 // Prints a number and the byte after it.
-fn say(number: u64, after: u8) {
-    io::print_decimal(1, number);
+fn say(rt: &impl Print, number: u64, after: u8) -> io::Result<()> {
+    print!(rt; "{number}")?;
     let text = [after];
-    io::write_all(1, &text);
+    rt.write_all(&text)
 }
 
 // A refusal by its number, "end" by 14, anything else by 15.
@@ -45,38 +46,39 @@ fn stop_of(stream: &[u8], list: &mut [u64]) -> u64 {
 }
 
 // A record of kind k with nothing but zeros in its body.
-fn say_kind(list: &mut [u64], k: u8) {
+fn say_kind(rt: &impl Print, list: &mut [u64], k: u8) -> io::Result<()> {
     let mut stream = [0u8; 11];
     stream[0] = k;
     let stop = stop_of(&stream, list);
-    say(k as u64, b' ');
-    say(stop, b'\n');
+    say(rt, k as u64, b' ')?;
+    say(rt, stop, b'\n')
 }
 
 // Every kind, known and unknown.
-fn say_kinds(list: &mut [u64]) {
+fn say_kinds(rt: &impl Print, list: &mut [u64]) -> io::Result<()> {
     let mut k: u8 = 0;
     while k < 11 {
-        say_kind(list, k);
+        say_kind(rt, list, k)?;
         k += 1;
     }
+    Ok(())
 }
 
-fn main() {
+fn main(rt: HostRuntime) -> io::Result<()> {
     let empty = [0u8; 0];
     let cut_off = [4u8; 1];
     let mut short = [7u64; 2559];
     let none = stop_of(&empty, &mut short);
-    say(none, b'\n');
+    say(&rt, none, b'\n')?;
     let before_two = stop_of(&cut_off, &mut short);
-    say(before_two, b'\n');
-    say_kinds(&mut short);
+    say(&rt, before_two, b'\n')?;
+    say_kinds(&rt, &mut short)?;
     let mut full = [7u64; meaning::LIST_ROOM];
     let end = stop_of(&empty, &mut full);
-    say(end, b'\n');
+    say(&rt, end, b'\n')?;
     let two = stop_of(&cut_off, &mut full);
-    say(two, b'\n');
-    say_kinds(&mut full);
-    say(short[0], b' ');
-    say(full[2559], b'\n');
+    say(&rt, two, b'\n')?;
+    say_kinds(&rt, &mut full)?;
+    say(&rt, short[0], b' ')?;
+    say(&rt, full[2559], b'\n')
 }

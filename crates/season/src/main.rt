@@ -4,6 +4,7 @@
 #![tactic(auto)]
 
 use meaning::Found;
+use std::io;
 
 // Writes a byte into the stream, where there is room. Returns the next place.
 fn put(stream: &mut [u8], at: usize, byte: u8) -> usize {
@@ -92,32 +93,33 @@ fn put_changes(stream: &mut [u8], start: usize) -> usize {
 }
 
 // Prints a number and the byte after it.
-fn say(number: u64, after: u8) {
-    io::print_decimal(1, number);
+fn say(rt: &impl Print, number: u64, after: u8) -> io::Result<()> {
+    print!(rt; "{number}")?;
     let text = [after];
-    io::write_all(1, &text);
+    rt.write_all(&text)
 }
 
 // Prints a link's number, how many atoms it has, and the lowest-numbered one, or 512 for none.
-fn say_link(label: &[u64; 512], l: usize) {
-    say(l as u64, b' ');
-    say(labels::atoms_on(label, l) as u64, b' ');
+fn say_link(rt: &impl Print, label: &[u64; 512], l: usize) -> io::Result<()> {
+    say(rt, l as u64, b' ')?;
+    say(rt, labels::atoms_on(label, l) as u64, b' ')?;
     match labels::lowest_on(label, l) {
-        Found::At(k) => say(k as u64, b'\n'),
-        Found::Nothing => say(512, b'\n'),
+        Found::At(k) => say(rt, k as u64, b'\n'),
+        Found::Nothing => say(rt, 512, b'\n'),
     }
 }
 
 // Prints the lines of the first 33 links: the last of these is not declared.
-fn say_links(label: &[u64; 512]) {
+fn say_links(rt: &impl Print, label: &[u64; 512]) -> io::Result<()> {
     let mut l: usize = 0;
     while l < 33 {
-        say_link(label, l);
+        say_link(rt, label, l)?;
         l += 1;
     }
+    Ok(())
 }
 
-fn main() {
+fn main(rt: HostRuntime) -> io::Result<()> {
     let mut stream = [0u8; 8192];
     let hall = put_hall(&mut stream);
     let rules = put_rules(&mut stream, hall);
@@ -141,10 +143,10 @@ fn main() {
         &mut owner,
         &mut list,
     );
-    say(full as u64, b' ');
-    say(ran.past as u64, b' ');
+    say(&rt, full as u64, b' ')?;
+    say(&rt, ran.past as u64, b' ')?;
     let h = ran.hall;
-    say(h.links as u64, b' ');
-    say(h.atoms as u64, b'\n');
-    say_links(&label);
+    say(&rt, h.links as u64, b' ')?;
+    say(&rt, h.atoms as u64, b'\n')?;
+    say_links(&rt, &label)
 }
