@@ -1,5 +1,5 @@
 -- What the contracts of the program cite. Assumes nothing: these are definitions.
-use Rattle.std.specs.Prelude.{◌≡◌, List, ℕ, ◌*◌, ◌≤◌, length}
+use Rattle.std.specs.Prelude.{List, ℕ, ◌*◌, ◌≤◌, length}
 use Rattle.meaning.specs.Changes.{entry_words}
 use Rattle.meaning.specs.declared.Answer.{Answer}
 use Rattle.meaning.specs.declared.Answer.TheVariants.{End, Refused, Ok, Changed, Loop, NoLoop, Went, Yes, No, Tally}

@@ -3,8 +3,9 @@
 // An error of reading or writing ends the program: `main` returns it.
 #![tactic(auto)]
 
-ghost use Rattle.std.specs.Prelude.{◌≡◌, ◌+◌, ◌*◌, ◌≤◌, length, IfOk, OnErr};
+ghost use Rattle.std.specs.Prelude.{◌≡◌, ◌+◌, ◌*◌, ◌≤◌, ◌<◌, ◌∷◌, [], ℕ, length, take, IsTrue, IsFalse, IfOk, OnErr};
 ghost use Rattle.std.specs.Io.{ReadsAtMost};
+ghost use Rattle.std.specs.Io.KnownBytes.{Keeps, Consumes, IsAtEnd};
 ghost use Rattle.meaning.specs.Changes.{entry_words};
 ghost use Rattle.meaning.specs.Step.{list_room};
 ghost use Rattle.meaning.specs.Box.{state_of, Held};
@@ -15,14 +16,17 @@ use std::io;
 use std::io::Read;
 
 // Reads until the buffer is full or the input ends, and gives how many bytes it put at the buffer's start.
-fn read_full(input: &mut impl Read, buf: &mut [u8]) -> io::Result<usize>
-    ensures { ReadsAtMost result buf.new }
+fn read_full<R: Read>(input: &mut R, buf: &mut [u8]) -> io::Result<usize>
+    ensures bound { ReadsAtMost result buf.new }
+    ensures ok { IfOk result (λ n. Consumes (R.remaining input.old) (R.remaining input.new) (take n buf.new)) }
+    ensures end { IfOk result (λ n. n < length buf.new → IsAtEnd (R.remaining input.new)) }
+    ensures err { OnErr result ((n : ℕ) × Consumes (R.remaining input.old) (R.remaining input.new) (take n buf.new)) }
 {
     let mut done = 0;
     while done < buf.len() {
         let n = input.read(&mut buf[done..])?;
         if n == 0 {
-            break;
+            return Ok(done);
         }
         done += n;
     }
@@ -30,7 +34,10 @@ fn read_full(input: &mut impl Read, buf: &mut [u8]) -> io::Result<usize>
 }
 
 // Whether the input has a byte more.
-fn is_more(input: &mut impl Read) -> io::Result<bool> {
+fn is_more<R: Read>(input: &mut R) -> io::Result<bool>
+    ensures more { IfOk result (λ more. IsTrue more → (b : ℕ) × Consumes (R.remaining input.old) (R.remaining input.new) (b ∷ [])) }
+    ensures end { IfOk result (λ more. IsFalse more → Keeps (R.remaining input.old) (R.remaining input.new) × IsAtEnd (R.remaining input.new)) }
+{
     let mut one = [0u8; 1];
     Ok(read_full(input, &mut one)? > 0)
 }
