@@ -4,6 +4,3 @@ use Rattle.tables.proofs.atom.atom_of.Goals as goal
 
 pub place_of-p-requires : goal.place_of-p-requires
 place_of-p-requires c = (held_whole _ _ _ c.requires.held).sound.cuts
-
-pub returns : goal.returns
-returns c = rw (c.atom_at.ensures, c.place_of-p.ensures.0)

@@ -9,14 +9,12 @@ loop-low-init c = omega (arith, place_le c.args.cut.now c.args.n c.args.a)
 
 pub loop-low-preserved-then-cut-middle : goal.loop-low-preserved-then-cut-middle
 loop-low-preserved-then-cut-middle c =
-    let b = c in
-    let g = b.args in
-    let m = b.loop-low.low + (b.loop-low.high - b.loop-low.low) / 2 in
+    let g = c.args in
+    let m = c.loop-low.low + (c.loop-low.high - c.loop-low.low) / 2 in
     omega (arith, place_max g.cut.now g.n g.a m (omega arith) c.if-cut-middle.true)
 
 pub loop-low-preserved : goal.loop-low-preserved
 loop-low-preserved c =
-    let b = c in
-    let g = b.args in
-    let m = b.loop-low.low + (b.loop-low.high - b.loop-low.low) / 2 in
-    omega (arith, place_lt b.requires g.a m (omega arith) c.if-cut-middle.false)
+    let g = c.args in
+    let m = c.loop-low.low + (c.loop-low.high - c.loop-low.low) / 2 in
+    omega (arith, place_lt c.requires g.a m (omega arith) c.if-cut-middle.false)

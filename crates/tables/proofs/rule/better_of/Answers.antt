@@ -9,29 +9,18 @@ returns-then-a-lower_of c = (keep_out _ _ _ _ (covers_below _ _ _ _ c.lower_of.e
 
 pub returns-then-upper_of-a : goal.returns-then-upper_of-a
 returns-then-upper_of-a c =
-    let l = c in
-    (keep_out _ _ _ _ (covers_past _ _ _ _ _ l.lower_of.ensures.0 c.upper_of.ensures.0 c.if-upper_of-a.true), search rules)
+    (keep_out _ _ _ _ (covers_past _ _ _ _ _ c.lower_of.ensures.0 c.upper_of.ensures.0 c.if-upper_of-a.true), search rules)
 
 pub returns-then-best-eq256 : goal.returns-then-best-eq256
 returns-then-best-eq256 c =
-    let u = c in
-    let l = u in
-    (take_first _ _ _ _ (covers_between _ _ _ _ _ l.lower_of.ensures.0 u.upper_of.ensures.0 u.if-a-lower_of.false c.if-upper_of-a.false) c.if-best-eq256.true, search rules)
+    (take_first _ _ _ _ (covers_between _ _ _ _ _ c.lower_of.ensures.0 c.upper_of.ensures.0 c.if-a-lower_of.false c.if-upper_of-a.false) c.if-best-eq256.true, search rules)
 
 pub returns-then-rank_of : goal.returns-then-rank_of
 returns-then-rank_of c =
-    let r = c in
-    let n = r in
-    let u = n in
-    let l = u in
-    let in-it = covers_between _ _ _ _ _ l.lower_of.ensures.0 u.upper_of.ensures.0 u.if-a-lower_of.false n.if-upper_of-a.false in
-    (higher_by _ _ _ _ _ _ r.rank_of.ensures.0 c.rank_of-2.ensures.0 in-it n.if-best-eq256.false c.if-rank_of.true, search rules)
+    let in-it = covers_between _ _ _ _ _ c.lower_of.ensures.0 c.upper_of.ensures.0 c.if-a-lower_of.false c.if-upper_of-a.false in
+    (higher_by _ _ _ _ _ _ c.rank_of.ensures.0 c.rank_of-2.ensures.0 in-it c.if-best-eq256.false c.if-rank_of.true, search rules)
 
 pub returns : goal.returns
 returns c =
-    let r = c in
-    let n = r in
-    let u = n in
-    let l = u in
-    let in-it = covers_between _ _ _ _ _ l.lower_of.ensures.0 u.upper_of.ensures.0 u.if-a-lower_of.false n.if-upper_of-a.false in
-    (lower_by _ _ _ _ _ _ r.rank_of.ensures.0 c.rank_of-2.ensures.0 in-it n.if-best-eq256.false c.if-rank_of.false, search rules)
+    let in-it = covers_between _ _ _ _ _ c.lower_of.ensures.0 c.upper_of.ensures.0 c.if-a-lower_of.false c.if-upper_of-a.false in
+    (lower_by _ _ _ _ _ _ c.rank_of.ensures.0 c.rank_of-2.ensures.0 in-it c.if-best-eq256.false c.if-rank_of.false, search rules)

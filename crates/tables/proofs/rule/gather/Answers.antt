@@ -10,14 +10,11 @@ loop-i-init c = (search rules, search rules, search rules, gathered_none)
 
 pub loop-i-preserved : goal.loop-i-preserved
 loop-i-preserved c =
-    let c3 = c in
-    let c2 = c3 in
-    let c1 = c2 in
-    let l = c1.loop-i in
+    let l = c.loop-i in
     let m = l.invariant.2 in
-    let g1 = c1.take_in-count.ensures.1 _ _ m l.invariant.3 in
-    let g2 = gathered_to (c2.take_in-count-in-loop-i.ensures.1 _ _ m g1) (l.i + 2) (omega arith) in
-    let g3 = gathered_to (c3.take_in-count-in-loop-i-2.ensures.1 _ _ m g2) (l.i + 3) (omega arith) in
+    let g1 = c.take_in-count.ensures.1 _ _ m l.invariant.3 in
+    let g2 = gathered_to (c.take_in-count-in-loop-i.ensures.1 _ _ m g1) (l.i + 2) (omega arith) in
+    let g3 = gathered_to (c.take_in-count-in-loop-i-2.ensures.1 _ _ m g2) (l.i + 3) (omega arith) in
     let g4 = gathered_to (c.take_in-count-in-loop-i-3.ensures.1 _ _ m g3) (l.i + 4) (omega arith) in
     (search rules, search rules, m, g4)
 

@@ -12,12 +12,10 @@ pub loop-l-init : goal.loop-l-init
 loop-l-init c = (search rules, marked_none (search rules))
 
 pub loop-l-preserved : goal.loop-l-preserved
-loop-l-preserved c =
-    let l = c in (
-      search rules,
-      marked_more l.loop-l.invariant.1 (omega arith) _
-          (c.mask_of.ensures ∙ ap (λ (r : ℕ). mask_of (eqb r l.args.v)) c.source_of.ensures.0),
-    )
+loop-l-preserved c = (
+  search rules,
+  marked_more c.loop-l.invariant.1 (omega arith) _ (c.mask_of.ensures ∙ ap (λ (r : ℕ). mask_of (eqb r c.args.v)) c.source_of.ensures.0),
+)
 
 pub returns : goal.returns
 returns c =

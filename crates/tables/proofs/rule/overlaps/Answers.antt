@@ -4,11 +4,8 @@ use Rattle.tables.proofs.rule.overlaps.Goals as goal
 
 pub returns-then-lower_of-upper_of : goal.returns-then-lower_of-upper_of
 returns-then-lower_of-upper_of c =
-    let d = c in
-    let b = d in
-    overlaps_if _ _ _ _ _ b.lower_of.ensures.0 b.upper_of.ensures.0 _ _ c.lower_of-then-lower_of-upper_of.ensures.0 c.upper_of-then-lower_of-upper_of.ensures.0 d.if-lower_of-upper_of.true
+    overlaps_if _ _ _ _ _ c.lower_of.ensures.0 c.upper_of.ensures.0 _ _ c.lower_of-then-lower_of-upper_of.ensures.0 c.upper_of-then-lower_of-upper_of.ensures.0 c.if-lower_of-upper_of.true
 
 pub returns : goal.returns
 returns c =
-    let b = c in
-    overlaps_not _ _ _ _ _ b.lower_of.ensures.0 b.upper_of.ensures.0 c.if-lower_of-upper_of.false
+    overlaps_not _ _ _ _ _ c.lower_of.ensures.0 c.upper_of.ensures.0 c.if-lower_of-upper_of.false

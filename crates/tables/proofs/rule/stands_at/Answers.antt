@@ -10,6 +10,5 @@ returns-then-x-eq0 c = not_standing _ _ _ _ c.if-x-eq0.true
 
 pub returns : goal.returns
 returns c =
-    let b = c in
-    stands_there _ _ _ _ b.if-x-eq0.false _
-    (c.source_of.ensures.0 ∙ ap (λ (l : ℕ). get_or b.args.link.now l 0 / 1024) b.link_of.ensures.0)
+    stands_there _ _ _ _ c.if-x-eq0.false _
+    (c.source_of.ensures.0 ∙ ap (λ (l : ℕ). get_or c.args.link.now l 0 / 1024) c.link_of.ensures.0)

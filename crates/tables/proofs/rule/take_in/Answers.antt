@@ -9,9 +9,6 @@ pub returns-then-overlaps : goal.returns-then-overlaps
 returns-then-overlaps c =
     (search rules, λ link v m g. gathered_take g (search rules) (sym (stands_marked _ link v _ _ _ m c.stands_on.ensures) ∙ c.if-stands_on.true))
 
-pub returns-else-overlaps : goal.returns-else-overlaps
-returns-else-overlaps c = (search rules, λ link v m g. gathered_skip g (λ _ e. true≢false (sym e ∙ sym c.overlaps.ensures ∙ c.if-overlaps.false)))
-
 pub returns-else-stands_on : goal.returns-else-stands_on
 returns-else-stands_on c = (
   search rules,

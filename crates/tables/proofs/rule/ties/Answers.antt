@@ -3,7 +3,7 @@ use Rattle.meaning.proofs.base.Search.{any_true, any_none, any_more}
 use Rattle.tables.proofs.Rules.{ties_nowhere}
 use borrow.Author.Rules.{rules}
 use mathlib.Core.Bool.{◌||◌}
-use mathlib.Core.Path.{◌≡◌, sym, ap₂, ◌∙◌}
+use mathlib.Core.Path.{sym, ap₂, ◌∙◌}
 use native.Mathlib.Omega.{arith}
 use Rattle.tables.proofs.rule.ties.Goals as goal
 
@@ -15,13 +15,7 @@ loop-i-init c = (search rules, any_none _)
 
 pub returns-then-ties_with : goal.returns-then-ties_with
 returns-then-ties_with c =
-    let b = c in
-    sym (any_true _ 256 b.loop-i.i (omega arith) (sym c.ties_with.ensures ∙ c.if-ties_with.true))
+    sym (any_true _ 256 c.loop-i.i (omega arith) (sym c.ties_with.ensures ∙ c.if-ties_with.true))
 
 pub loop-i-preserved : goal.loop-i-preserved
 loop-i-preserved c = (search rules, any_more _ _ ∙ ap₂ ◌||◌ c.loop-i.invariant.1 (sym c.ties_with.ensures ∙ c.if-ties_with.false))
-
-pub returns : goal.returns
-returns c =
-    let done : c.loop-i.i ≡ 256 = omega arith in
-    sym (rw done at c.loop-i.invariant.1)

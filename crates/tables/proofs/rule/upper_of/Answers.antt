@@ -7,9 +7,6 @@ use mathlib.Core.Path.{◌≡◌}
 use native.Mathlib.Omega.{arith}
 use Rattle.tables.proofs.rule.upper_of.Goals as goal
 
-pub overflow_add-result : goal.overflow_add-result
-overflow_add-result c = omega (arith, mask_le (c.args.w / 274877906944))
-
 pub returns : goal.returns
 unfolding lower upper free_of
 returns c =

@@ -8,13 +8,11 @@ use Rattle.tables.proofs.update.adds.Goals as goal
 pub returns-then-cut-p : goal.returns-then-cut-p
 unfolding is_cut
 returns-then-cut-p c =
-    let b = c in
-    let g = b.args in
-    (rw (← b.place_of-p.ensures.0, eq-eqb (get_or g.cut.now b.place_of-p.result.0 0) g.b c.if-cut-p.true), search rules)
+    let g = c.args in
+    (rw (← c.place_of-p.ensures.0, eq-eqb (get_or g.cut.now c.place_of-p.result.0 0) g.b c.if-cut-p.true), search rules)
 
 pub returns : goal.returns
 unfolding is_cut
 returns c =
-    let b = c in
-    let g = b.args in
-    (rw (← b.place_of-p.ensures.0, ne_eqb (get_or g.cut.now b.place_of-p.result.0 0) g.b c.if-cut-p.false), search rules)
+    let g = c.args in
+    (rw (← c.place_of-p.ensures.0, ne_eqb (get_or g.cut.now c.place_of-p.result.0 0) g.b c.if-cut-p.false), search rules)

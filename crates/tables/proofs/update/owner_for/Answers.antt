@@ -12,5 +12,4 @@ returns-then-w-eq256 c = rw c.if-w-eq256.true
 pub returns : goal.returns
 unfolding owner_for
 returns c =
-    let s = c in
-    rw (lt-ltb s.args.w 256 (search rules), ← c.link_of-l.ensures.0) (omega arith)
+    rw (lt-ltb c.args.w 256 (search rules), ← c.link_of-l.ensures.0) (omega arith)

@@ -68,11 +68,6 @@ hand_on-listed-requires c =
     let p = (goal.at.hand_on-listed-requires c).After-place_of-t in
     (ready c.requires.whole (node_small (joined p)) (spans p) c.requires.phase_value.2, c.gather-count.ensures.few, c.gather-count.ensures.within)
 
-pub overflow_cast-result : goal.overflow_cast-result
-overflow_cast-result c =
-    let p = (goal.at.overflow_cast-result c).After-place_of-t in
-    omega (arith, c.hand_on-listed.ensures.words.few, (spans p).within, c.requires.whole.sound.cuts.room)
-
 pub returns : goal.returns
 unfolding updated with_rule rule_at
 returns c =
