@@ -13,13 +13,13 @@ import tempfile
 
 HOW = """Each program runs in turn on streams near 65,536 bytes, and its output is compared byte for byte with that of hallcheck. Time is that
 of the processor, user and system, the median of the runs, less the median on empty input. Instructions are those of the program and not of the kernel,
-less those on empty input: counted by perf where the machine counts them, else by valgrind or, where the processor is not x86-64, by the emulator.
+less those on empty input: counted by perf where the machine counts them, else by valgrind.
 Each figure is the median over the seeds. A ratio is the peer's figure divided by that of hallcheck on the same stream, the median over the
 seeds: above 1, hallcheck is faster."""
 here = os.path.dirname(os.path.abspath(__file__))
 root = os.path.dirname(here)
 BUILT = os.path.join(root, 'target', 'bench')
-NATIVE = os.uname().machine == 'x86_64'
+CRATE = os.path.join('crates', 'hallcheck')
 LIMIT = 65536
 TOP = 1 << 32
 
@@ -232,28 +232,39 @@ STREAMS = {
 # ---------------------------------------------------------------- running
 
 
-def build():
-    """Proves and builds hallcheck where its source changed."""
+def build(tree=root):
+    """Proves and builds the hallcheck of a tree where its sources changed."""
     if not shutil.which('rt'):
         raise SystemExit('bench: there is no rt on the PATH')
-    made = subprocess.run(['rt', 'check', 'hallcheck'], cwd=root, stdout=subprocess.PIPE, stderr=subprocess.STDOUT, text=True)
+    made = subprocess.run(['rt', 'run'], cwd=os.path.join(tree, CRATE), stdin=subprocess.DEVNULL, stdout=subprocess.PIPE, stderr=subprocess.STDOUT, text=True)
     if made.returncode:
-        raise SystemExit(made.stdout + 'rt check hallcheck failed; --as-built measures the program as it stands')
+        raise SystemExit(made.stdout + 'rt run failed in %s; --as-built measures the program as it stands' % CRATE)
 
 
-def ours():
-    """The command of hallcheck, as rt runs it."""
-    return subprocess.run([os.path.join(root, 'tools', 'run'), '--words', 'hallcheck'],
-                          check=True, stdout=subprocess.PIPE, text=True).stdout.split('\n')[:-1]
+def ours(tree=root):
+    """The command of the hallcheck of a tree."""
+    program = os.path.join(tree, CRATE, 'out', 'hallcheck')
+    if not os.access(program, os.X_OK):
+        raise SystemExit('bench: %s is not built' % program)
+    return [program]
+
+
+def asked(usage):
+    """The words of the command line. Without --as-built among them hallcheck is built first; what no script knows gets the usage."""
+    words = [a for a in sys.argv[1:] if a != '--as-built']
+    if any(a.startswith('-') for a in words):
+        print('usage: ' + usage)
+        sys.exit(0 if words[0] in ('-h', '--help') else 2)
+    if len(words) == len(sys.argv) - 1:
+        build()
+    return words
 
 
 def programs(which):
     """The commands of hallcheck and of the peers."""
-    words = ours()
-    emulator = [] if NATIVE else words[:1]
-    progs = {'hallcheck': words}
+    progs = {'hallcheck': ours()}
     for k in which:
-        progs[k] = emulator + [os.path.join(BUILT, PEERS[k][0])] + PEERS[k][1:]
+        progs[k] = [os.path.join(BUILT, PEERS[k][0])] + PEERS[k][1:]
     return progs
 
 
@@ -303,26 +314,17 @@ def by_valgrind(cmd, stream, tmp):
     return int(found.group(1)) if found else None
 
 
-def by_emulator(cmd, stream, tmp):
-    count = os.path.join(tmp, 'count')
-    write(count, b'')
-    plugin = '%s,out=%s' % (os.path.join(BUILT, 'insncount.so'), count)
-    piped(['/usr/bin/qemu-x86_64', '-plugin', plugin] + cmd[1:], stream)
-    return int(read(count) or 0) or None
-
-
 def counter(cmd, tmp, exact=False):
     """A way to count instructions that works here, and its name; perf is left out where exact counts are wanted."""
-    ways = [('valgrind', by_valgrind, shutil.which('valgrind'))] if NATIVE else [
-        ('the emulator', by_emulator, os.path.exists(os.path.join(BUILT, 'insncount.so')))]
-    if NATIVE and not exact:
+    ways = [('valgrind', by_valgrind, shutil.which('valgrind'))]
+    if not exact:
         ways.insert(0, ('perf', by_perf, shutil.which('perf')))
     empty = os.path.join(tmp, 'empty')
     write(empty, b'')
     for name, way, there in ways:
         if there and way(cmd, empty, tmp):
             return way, name
-    return None, 'nothing: neither perf with counters nor valgrind nor, where the processor is not x86-64, qemu-user is there'
+    return None, 'nothing: neither perf with counters nor valgrind is there'
 
 
 # ---------------------------------------------------------------- measuring
@@ -414,7 +416,7 @@ def machine():
         found = re.search(r'^model name\s*: (.*)$', open('/proc/cpuinfo').read(), re.M)
     except OSError:
         found = None
-    return (found.group(1) if found else os.uname().machine) + ('' if NATIVE else ', x86-64 emulated')
+    return found.group(1) if found else os.uname().machine
 
 
 def markdown(classes, progs, counted, said):
@@ -444,7 +446,7 @@ def options():
     p.add_argument('--no-count', action='store_true', help='count no instructions')
     p.add_argument('--save', metavar='DIR', help='keep the streams there')
     p.add_argument('--markdown', metavar='FILE', help='write the table and the goals there too')
-    p.add_argument('--as-built', action='store_true', help='measure target/bin/hallcheck as it stands, without rt check')
+    p.add_argument('--as-built', action='store_true', help='measure crates/hallcheck/out/hallcheck as it stands, without rt run')
     p.add_argument('--list', action='store_true', help='tell the classes of streams, and nothing else')
     a = p.parse_args()
     for given, known in ((a.streams, STREAMS), (a.peers, PEERS)):
