@@ -1,4 +1,4 @@
--- `label::atoms_on` meets its contract. The loop's invariant: `n` counts the atoms of the words passed. Assumes nothing.
+-- `labels::atoms_on` meets its contract. The loop's invariant: `n` counts the atoms of the words passed. Assumes nothing.
 use Prim.Native.Nat.{ℕ, ◌+◌, ◌*◌}
 use Rattle.lent.proofs.LabelWords.{count_word}
 use Rattle.meaning.proofs.base.Search.{count_le}

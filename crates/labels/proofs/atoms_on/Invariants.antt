@@ -1,4 +1,4 @@
--- `label::atoms_on` meets its contract. The loop's invariant: `n` counts the atoms of the words passed. Assumes nothing.
+-- `labels::atoms_on` meets its contract. The loop's invariant: `n` counts the atoms of the words passed. Assumes nothing.
 use Prim.Native.Nat.{◌*◌, ◌-◌, ◌≤◌}
 use Rattle.meaning.specs.Labels.{on}
 use Rattle.meaning.specs.Search.{count_below}

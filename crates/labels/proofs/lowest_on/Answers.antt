@@ -1,4 +1,4 @@
--- `label::lowest_on` meets its contract. The loop's invariant: no atom of the words passed is on the link. Assumes nothing.
+-- `labels::lowest_on` meets its contract. The loop's invariant: no atom of the words passed is on the link. Assumes nothing.
 use Prim.Native.Nat.{◌+◌, ◌*◌}
 use Rattle.lent.proofs.LabelWords.{none_below, there}
 use Rattle.meaning.proofs.base.Search.{lowest_off, lowest_first}

@@ -1,4 +1,4 @@
--- `label::lowest_on` meets its contract. The loop's invariant: no atom of the words passed is on the link. Assumes nothing.
+-- `labels::lowest_on` meets its contract. The loop's invariant: no atom of the words passed is on the link. Assumes nothing.
 use Prim.Native.Nat.{ℕ, ◌*◌, ◌-◌, ◌≤◌, ◌<◌}
 use Rattle.meaning.specs.Labels.{on}
 use mathlib.Core.Bool.{false}
