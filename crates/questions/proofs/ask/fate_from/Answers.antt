@@ -9,7 +9,7 @@ pub follow-requires : goal.follow-requires
 follow-requires c =
     let W = held_whole _ _ _ c.requires.held in
     let h = place_holds W.sound.cuts c.args.a (omega (arith, c.ranges.a)) in
-    (rw c.atom_of-atom.ensures (small_atom _ _ _ W _ h.within), omega (arith, c.requires.v_lt_nodes, W.sound.laid.small), W.sound.laid.small, ends_of _ _ _ W)
+    (rw c.atom_of-atom.ensures (small_atom _ _ _ W _ h.within), omega (arith, c.requires.v_lt_nodes, W.sound.laid.small), omega (arith, W.sound.laid.small), ends_of _ _ _ W)
 
 pub returns : goal.returns
 returns c =

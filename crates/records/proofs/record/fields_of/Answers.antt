@@ -71,7 +71,7 @@ pub returns-in-2 : goal.returns-in-2
 returns-in-2 c = cc (is_link c.args.s.now c.in-2.is)
 
 pub returns-in-4 : goal.returns-in-4
-returns-in-4 c = cc (is_insert c.args.s.now c.in-4.is)
+returns-in-4 c = rw (c.two.ensures, c.one-in-4.ensures, c.four.ensures, c.one-in-4-2.ensures, c.two-in-4.ensures) (is_insert c.args.s.now c.in-4.is)
 
 pub returns-in-5 : goal.returns-in-5
 returns-in-5 c = cc (is_remove c.args.s.now c.in-5.is)
