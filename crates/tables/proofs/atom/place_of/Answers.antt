@@ -11,10 +11,10 @@ pub loop-low-preserved-then-cut-middle : goal.loop-low-preserved-then-cut-middle
 loop-low-preserved-then-cut-middle c =
     let g = c.args in
     let m = c.loop-low.low + (c.loop-low.high - c.loop-low.low) / 2 in
-    omega (arith, place_max g.cut.now g.n g.a m (omega arith) c.if-cut-middle.true)
+    omega (arith, place_max g.cut.now g.n g.a m (omega arith) (omega arith))
 
 pub loop-low-preserved : goal.loop-low-preserved
 loop-low-preserved c =
     let g = c.args in
     let m = c.loop-low.low + (c.loop-low.high - c.loop-low.low) / 2 in
-    omega (arith, place_lt c.requires g.a m (omega arith) c.if-cut-middle.false)
+    omega (arith, place_lt c.requires g.a m (omega arith) (omega arith))
