@@ -5,6 +5,7 @@ use mathlib.Core.List.{[], ◌∷◌}
 use Prim.Native.Nat.{ℕ, ◌+◌, ◌*◌, ◌^◌, ◌<◌}
 use native.Mathlib.Omega.{arith}
 use lib.ListN.{take}
+use Rattle.meaning.specs.declared.hall.Phase.TheVariants.{Closed}
 use Rattle.meaning.specs.Hall.{top, State, empty}
 use Rattle.meaning.specs.Rule.{span, rule_word, lower, upper, rank, length_of, link_of}
 use Rattle.meaning.specs.Records.{hall, link, close, insert}
@@ -36,7 +37,7 @@ pub parts_wide : (l p n t : ℕ) → RuleFits wide l p n t → Parts l p n t
 parts_wide l p n t R = record { link = link_of_lem R; from = lower_of R; below = upper_of R; long = length_of_lem R; priority = rank_of R }
 
 -- a state of these addresses stays in order over an insert, and its atoms cover each address once
-module _ (m : State) (S : Sound m) (is : m.width ≡ wide) (closed : m.plan.phase ≡ 2) (r l p n t : ℕ) (F : Sized wide l p t) (ok : update_refusal m (insert r l p n t) ≡ none) where
+module _ (m : State) (S : Sound m) (is : m.width ≡ wide) (closed : m.plan.phase ≡ Closed) (r l p n t : ℕ) (F : Sized wide l p t) (ok : update_refusal m (insert r l p n t) ≡ none) where
   abbrev after : State
   after = updated m (insert r l p n t)
 

@@ -3,6 +3,7 @@ use mathlib.Core.Path.{◌≡◌, refl, ap, ◌∙◌}
 use mathlib.Core.List.{List, [], ◌∷◌, ◌++◌}
 use Prim.Native.Nat.{ℕ, ◌*◌}
 use lib.ListN.{length, get_or, take}
+use Rattle.meaning.specs.declared.Refusal.TheVariants.{RuleNotLive}
 use Rattle.meaning.specs.declared.Answer.{Answer}
 use Rattle.meaning.specs.declared.Answer.TheVariants.{Refused, Ok, Changed, Loop, NoLoop, Went, Tally}
 use Rattle.meaning.specs.declared.Fate.TheVariants.{Out, Round}
@@ -61,7 +62,7 @@ table =
     ∷ line (Went (Out 2 1)) []
     ∷ line (Changed 1) (1 ∷ 167772160 ∷ 184549376 ∷ 1 ∷ 2 ∷ [])
     ∷ line NoLoop []
-    ∷ line (Refused 10) []
+    ∷ line (Refused RuleNotLive) []
     ∷ []
 
 -- to unfold this is to unfold every definition of the meaning but the search over addresses

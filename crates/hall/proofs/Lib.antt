@@ -1,3 +1,5 @@
--- Laws of the records, which the proofs of this crate cite.
--- what a record may be that is none of those which a `match` names before its last arm
-mod Arms
+-- Laws of this crate. Assumes nothing.
+-- a link's checks by the end that its code and its number say
+pub mod Links
+-- a set-up record by its change of the plan
+pub mod SetUp

@@ -19,15 +19,14 @@ use Rattle.meaning.proofs.records.Passed.{passed_few}
 use Rattle.lent.proofs.Steps.{left_said, left_passed, held_after}
 use Rattle.meaning.proofs.records.Said.{said_once}
 use Rattle.meaning.proofs.document.Runs.{lists}
-use Rattle.hallcheck.specs.Room.{Room, HasEntries, entries_of}
+use Rattle.hallcheck.specs.Entries.{HasEntries, entries_of}
 
--- before a record: the box came from a fresh one, both places lie within, and there is room in the list and in the output
-pub record Between (bytes : List ℕ) (m : State) (label owner list out : List ℕ) (at place end : ℕ) : Type 0 where
+-- before a record: the box came from a fresh one, both places lie within, and there is room in the list
+pub record Between (bytes : List ℕ) (m : State) (label owner list : List ℕ) (at place : ℕ) : Type 0 where
   pub held : Held m label owner
   pub inside : at ≤ length bytes
   pub slow : place ≤ at
   pub entries : list_room ≤ length list
-  pub room : Room out end
 
 -- a fresh box
 pub held_fresh : (m : State) (label owner : List ℕ) → m ≡ fresh → label ≡ labels_of fresh → owner ≡ owners_of fresh → Held m label owner
@@ -37,7 +36,7 @@ held_fresh m label owner e l o = subst (λ (x : State). Held x label owner) (sym
 rest_length : (bytes : List ℕ) (at : ℕ) → length (take (length bytes - at) (drop at bytes)) ≡ length bytes - at
 rest_length bytes at = length-take-le (length bytes - at) (drop at bytes) (omega (arith, length-drop at bytes))
 
-module _ (bytes : List ℕ) (m : State) (label owner list out : List ℕ) (at place end : ℕ) (g : Between bytes m label owner list out at place end)
+module _ (bytes : List ℕ) (m : State) (label owner list : List ℕ) (at place : ℕ) (g : Between bytes m label owner list at place)
     (a : Answer) (n : ℕ) (m' : State) (label' owner' list' : List ℕ)
     (e : left a n m' label' owner' list' ≡ left_of m list (take (length bytes - at) (drop at bytes))) (k : length list' ≡ length list) where
   -- the entries that its answer counts stand in the list
@@ -64,9 +63,9 @@ module _ (bytes : List ℕ) (m : State) (label owner list out : List ℕ) (at pl
       go (Tally o l r) q = omega arith
 
   -- the next record
-  pub goes : (out' : List ℕ) (end' : ℕ) → Room out' end' → (n ≡ 0 → ⊥) → Between bytes m' label' owner' list' out' (at + n) (place + 1) end'
+  pub goes : (n ≡ 0 → ⊥) → Between bytes m' label' owner' list' (at + n) (place + 1)
   unfolding step_of
-  goes out' end' r z =
+  goes z =
       let s = take (length bytes - at) (drop at bytes) in
       let few : n ≤ length bytes - at = omega (arith, left_passed m m' label' owner' list list' s a n e, passed_few (by_address m) m (length list) s, rest_length bytes at) in
       record {
@@ -74,5 +73,4 @@ module _ (bytes : List ℕ) (m : State) (label owner list out : List ℕ) (at pl
         inside = omega (arith, g.inside);
         slow = omega (arith, g.slow);
         entries = omega (arith, g.entries);
-        room = r;
       }

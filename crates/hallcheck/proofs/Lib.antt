@@ -1,5 +1,3 @@
 -- The laws behind the program's loop over the records.
 -- what holds before each record of the loop, and what a record leaves
 mod Between
--- an answer that is no accepted update counts no entry
-mod Counted

@@ -1,3 +1,3 @@
 -- What the contracts of the program cite.
--- what a buffer has room for, and how many entries are printed
-pub mod Room
+-- how many entries of the change list an answer counts, and that they stand there
+pub mod Entries

@@ -3,17 +3,18 @@
 // An error of reading or writing ends the program: `main` returns it.
 #![tactic(auto)]
 
-ghost use Rattle.std.specs.Prelude.{◌≡◌, ◌+◌, ◌*◌, ◌≤◌, ◌<◌, ◌∷◌, [], ℕ, length, take, IsTrue, IsFalse, IfOk, OnErr};
+ghost use Rattle.std.specs.Prelude.{◌≡◌, ◌↔◌, ◌+◌, ◌*◌, ◌≤◌, ◌<◌, ◌∷◌, [], ℕ, List, length, take, IsTrue, IsFalse, IfOk, OnErr};
 ghost use Rattle.std.specs.Io.{ReadsAtMost};
 ghost use Rattle.std.specs.Io.KnownBytes.{Keeps, Consumes, IsAtEnd};
 ghost use Rattle.meaning.specs.Changes.{entry_words};
 ghost use Rattle.meaning.specs.Step.{list_room};
-ghost use Rattle.meaning.specs.Box.{state_of, Held};
-ghost use Rattle.hallcheck.specs.Room.{Room, HasEntries, entries_of};
+ghost use Rattle.meaning.specs.Box.{HeldBy};
+ghost use Rattle.hallcheck.specs.Entries.{HasEntries, entries_of};
 
 use meaning::{Answer, Hall};
 use std::io;
 use std::io::Read;
+use std::marker::Model;
 
 // Reads until the buffer is full or the input ends, and gives how many bytes it put at the buffer's start.
 fn read_full<R: Read>(input: &mut R, buf: &mut [u8]) -> io::Result<usize>
@@ -42,58 +43,8 @@ fn is_more<R: Read>(input: &mut R) -> io::Result<bool>
     Ok(read_full(input, &mut one)? > 0)
 }
 
-// Writes out what is in the buffer.
-fn write_out(rt: &impl Print, out: &[u8], end: usize) -> io::Result<()>
-    requires { Room out.now end }
-{
-    rt.write_all(&out[..end])
-}
-
-// Makes room for a line: where there is too little, what is in the buffer is written out. Gives the place to go on at.
-fn make_room(rt: &impl Print, out: &[u8], end: usize) -> io::Result<usize>
-    requires { Room out.now end }
-    ensures { IfOk result (λ at. at + 128 ≤ length out.now) }
-{
-    if out.len() - end < print::ROOM {
-        write_out(rt, out, end)?;
-        return Ok(0);
-    }
-    Ok(end)
-}
-
-// A line for each of so many entries of the change list. After an error the buffer can be filled anew from its start.
-fn print_changes(
-    rt: &impl Print,
-    out: &mut [u8],
-    from: usize,
-    list: &[u64],
-    count: usize,
-) -> io::Result<usize>
-    requires room { Room out.old from }
-    requires entry_words_in_bounds { count * entry_words ≤ length list.now }
-    ensures ok { IfOk result (λ next. Room out.new next) }
-    ensures err { OnErr result (Room out.new 0) }
-{
-    let mut end = from;
-    let mut i: usize = 0;
-    while i < count {
-        let at = i * 5;
-        let next = make_room(rt, out, end)?;
-        end = print::put_change(
-            out,
-            next,
-            list[at],
-            list[at + 1],
-            list[at + 2],
-            list[at + 3],
-            list[at + 4],
-        );
-        i += 1;
-    }
-    Ok(end)
-}
-
 // How many entries of the change list an answer counts.
+#[tactic(auto, unfolding(crate::specs::Entries::entries_of))]
 fn entries_of(answer: Answer) -> usize
     ensures { result ≡ entries_of answer }
 {
@@ -103,97 +54,111 @@ fn entries_of(answer: Answer) -> usize
     }
 }
 
-// A record's line, and the entries of its change list. "End" prints nothing. After an error the buffer can be filled anew from its start.
-fn print_answer(
-    rt: &impl Print,
-    out: &mut [u8],
-    end: usize,
-    place: u64,
-    answer: Answer,
-    list: &[u64],
-) -> io::Result<usize>
-    requires room { Room out.old end }
-    requires has_entries { HasEntries answer list.now }
-    ensures ok { IfOk result (λ next. Room out.new next) }
-    ensures err { OnErr result (Room out.new 0) }
-{
-    match answer {
-        Answer::End => Ok(end),
-        _ => {
-            let at = make_room(rt, out, end)?;
-            let next = print::put_line(out, at, place, answer);
-            print_changes(rt, out, next, list, entries_of(answer))
+// Lines that are still to be written out.
+#[derive(Drop)]
+struct Out {
+    bytes: [u8; 65536],
+    length: usize,
+}
+
+impl Model for Out {
+    ghost Value = { List ℕ };
+
+    ghost view = { λ o. take o.length o.bytes };
+
+    ghost invariant = { λ o. o.length ≤ 65536 };
+}
+
+impl Out {
+    // Writes out all lines. After an error none is left either.
+    fn write_out(&mut self, rt: &impl Print) -> io::Result<()>
+        ensures { self.new ≡ [] }
+    {
+        let length = self.length;
+        self.length = 0;
+        rt.write_all(&self.bytes[..length])
+    }
+
+    // Whether there is too little room for a line.
+    fn is_full(&self) -> bool
+        ensures { IsTrue result ↔ (65536 < length self.now + 128) }
+    {
+        self.bytes.len() - self.length < print::ROOM
+    }
+
+    // A line for each entry of the change list, of five words each.
+    fn print_changes(&mut self, rt: &impl Print, list: &[u64]) -> io::Result<()> {
+        for entry in list.chunks_exact(5) {
+            if self.is_full() {
+                self.write_out(rt)?;
+            }
+            self.length = print::put_change(
+                &mut self.bytes,
+                self.length,
+                entry[0],
+                entry[1],
+                entry[2],
+                entry[3],
+                entry[4],
+            );
         }
+        Ok(())
+    }
+
+    // A record's line, and the entries of its change list. "End" prints nothing.
+    fn print_answer(
+        &mut self,
+        rt: &impl Print,
+        place: u64,
+        answer: Answer,
+        list: &[u64],
+    ) -> io::Result<()>
+        requires { HasEntries answer list.now }
+    {
+        if matches!(answer, Answer::End) {
+            return Ok(());
+        }
+        if self.is_full() {
+            self.write_out(rt)?;
+        }
+        self.length = print::put_line(&mut self.bytes, self.length, place, answer);
+        self.print_changes(rt, &list[..entries_of(answer) * 5])
     }
 }
 
-// The lines of all records of the bytes, from a fresh box on.
+// The lines of all records of the bytes, from a fresh hall on.
 fn print_all(
     rt: &impl Print,
     bytes: &[u8],
-    fresh: Hall,
-    link: &mut [u16; 64],
-    rule: &mut [u64; 256],
-    cut: &mut [u64; 513],
-    number: &mut [u16; 512],
-    label: &mut [u64; 512],
-    owner: &mut [u16; 8192],
+    hall: &mut Hall,
     list: &mut [u64],
-    out: &mut [u8],
+    out: &mut Out,
 ) -> io::Result<()>
-    requires held { Held (state_of fresh link.old rule.old cut.old number.old) label.old owner.old }
+    requires held { HeldBy hall.old }
     requires list_room_in_bounds { list_room ≤ length list.old }
-    requires room { Room out.old 0 }
 {
-    let mut h = fresh;
-    let mut at: usize = 0;
-    let mut place: u64 = 0;
-    let mut end: usize = 0;
+    let mut at = 0;
+    let mut place = 0;
     loop {
-        let rest = &bytes[at..];
-        let s = hall::take_record(rest, h, link, rule, cut, number, label, owner, list);
-        let answer = s.answer;
-        end = print_answer(rt, out, end, place, answer, list)?;
-        if s.passed == 0 {
-            return write_out(rt, out, end);
+        let step = hall::take_record(&bytes[at..], hall, list);
+        out.print_answer(rt, place, step.answer, list)?;
+        if step.passed == 0 {
+            return out.write_out(rt);
         }
-        h = s.hall;
-        at += s.passed;
+        at += step.passed;
         place += 1;
     }
 }
 
-// Lends the tables, the change list and the output buffer.
+// Lends a fresh hall, the change list and the output buffer.
 fn check(rt: &impl Print, bytes: &[u8]) -> io::Result<()> {
-    let mut link = [0u16; 64];
-    let mut rule = [0u64; 256];
-    let mut cut = [0u64; 513];
-    let mut number = [0u16; 512];
-    let mut label = [0u64; 512];
-    let mut owner = [0u16; 8192];
+    let mut hall = stream::new_box();
     let mut list = [0u64; meaning::LIST_ROOM];
-    let mut out = [0u8; 65536];
-    let fresh = stream::clear_box(
-        &mut link,
-        &mut rule,
-        &mut cut,
-        &mut number,
-        &mut label,
-        &mut owner,
-    );
-    print_all(
-        rt,
-        bytes,
-        fresh,
-        &mut link,
-        &mut rule,
-        &mut cut,
-        &mut number,
-        &mut label,
-        &mut owner,
-        &mut list,
-        &mut out,
-    )
+    let mut out = Out {
+        bytes: [0; 65536],
+        length: 0,
+    };
+    print_all(rt, bytes, &mut hall, &mut list, &mut out)
 }
 
 fn main(rt: HostRuntime) -> io::Result<()> {

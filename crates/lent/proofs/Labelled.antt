@@ -14,7 +14,7 @@ use lib.ListN.{length, get_or, get_or-eq_default}
 use lib.Seq.{ext_get_or}
 use borrow.Author.Tests.{ltb-true, lt-ltb, le-ltb, ne_eqb}
 use Rattle.meaning.specs.Search.{pick}
-use Rattle.meaning.specs.Hall.{zeroes, State, empty, fresh, source_of, end_of}
+use Rattle.meaning.specs.Hall.{zeroes, stage, State, empty, fresh, source_of, end_of}
 use Rattle.meaning.specs.Rule.{live, link_of}
 use Rattle.meaning.specs.Winner.{rule_at, winner, link_for, next_at}
 use Rattle.meaning.specs.Labels.{names, is_on, labels_of}
@@ -216,9 +216,6 @@ held_whole m label owner H =
     let O = owned_by m owner S H.owners in
     record { sound = S; owned = O; agrees = agrees_by m label owner S O H.labels }
 
-pub held_words : (m : State) (label owner : List ℕ) → Held m label owner → Words label
-held_words m label owner H = rw H.labels (labels_words m)
-
 -- ---- the walk by the tables
 
 via_link_lem : (m : State) (w : ℕ) → via_link (owner_word m w) ≡ link_for m w
@@ -287,7 +284,7 @@ pub fresh_labels : labels_of fresh ≡ zeroes 512
 fresh_labels = labels_idle fresh ((sound fresh start).idle (unfold empty in omega arith))
 
 -- before the close no rule is live, and a set-up record leaves the rules as they are
-module _ (m : State) (u : SetUp) (S : Sound m) (h : m.plan.phase < 2) where
+module _ (m : State) (u : SetUp) (S : Sound m) (h : stage m.plan.phase < 2) where
   abbrev set : State
   set = with_plan m (planned m.plan u)
 

@@ -17,3 +17,5 @@ pub mod Sets
 pub mod Steps
 -- what a record is that no arm of a `match` names before its last
 pub mod Others
+-- and the same by the number of its kind
+pub mod ByKind

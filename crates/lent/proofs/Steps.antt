@@ -1,6 +1,6 @@
 -- A step part by part: what a record that is in its order leaves, and the laws by which code's parts make up the contract of a step.
 -- Assumes nothing.
-use mathlib.Core.Path.{◌≡◌, sym, ap, ◌∙◌, subst⁻¹}
+use mathlib.Core.Path.{◌≡◌, refl, sym, ap, ◌∙◌, subst⁻¹}
 use mathlib.Core.List.{List}
 use mathlib.Core.Bool.{true, true≢false}
 use mathlib.Core.Option.{Option, none, some}
@@ -9,24 +9,32 @@ use lib.ListN.{length}
 use borrow.Author.Tests.{lt-ltb, le-ltb, eq-eqb, ne_eqb}
 use Rattle.meaning.specs.declared.Answer.{Answer}
 use Rattle.meaning.specs.declared.Answer.TheVariants.{End, Refused, Ok, Changed}
-use Rattle.meaning.specs.declared.Read.{Read}
-use Rattle.meaning.specs.declared.Read.TheVariants.{End as Nothing, Refused as Unread, Got}
+use Rattle.std.specs.Prelude.{Result, Ok as Okay, Err, ⊤}
+use Rattle.meaning.specs.declared.Refusal.{Refusal}
+use Rattle.meaning.specs.declared.Refusal.TheVariants.{ShortList, OutOfOrder}
 use Rattle.meaning.specs.declared.Record.{Record}
-use Rattle.meaning.specs.Hall.{State}
+use Rattle.meaning.specs.Hall.{stage, State}
 use Rattle.meaning.specs.Labels.{labels_of}
 use Rattle.meaning.specs.Working.{owners_of}
 use Rattle.meaning.specs.Changes.{overwrite}
 use Rattle.meaning.specs.Questions.{by_address}
-use Rattle.meaning.specs.Records.{read_of, SetUp, Update, Sort, set_up, update, question, sort_of, phase_of, is_question}
-use Rattle.meaning.specs.Step.{list_room, when, set_up_refusal, planned, with_plan, update_refusal, updated, node_of, refusal, turned_by, leaves, writes, only, answers, accepted, taken, step_for, step_with, step_of, reply_to}
+use Rattle.meaning.specs.Records.{Read, no_more, got, read_of, SetUp, Update, Sort, set_up, update, question, sort_of, phase_of, is_question}
+use Rattle.meaning.specs.Step.{list_room, when, checked, set_up_refusal, planned, with_plan, update_refusal, updated, node_of, refusal, turned_by, leaves, writes, only, answers, accepted, taken, step_for, step_with, step_of, reply_to}
 use Rattle.meaning.specs.Run.{Came, more}
 use Rattle.meaning.specs.Answers.{said}
 use Rattle.meaning.specs.Box.{Held, Left, left, left_by, left_for, left_of}
+use Rattle.meaning.proofs.base.Stages.{stage_once}
 use Rattle.meaning.proofs.records.Steps.{question_keeps}
 use Rattle.meaning.proofs.sound.Kept.{sound}
 use Rattle.lent.specs.Owners.{Words, Listed}
 use Rattle.lent.proofs.Labelled.{labels_are, owners_are, labels_still, owners_still}
 use Rattle.lent.specs.Steps.{takes}
+
+-- a check that gives no refusal has passed
+pub unrefused : (r : Result ⊤ Refusal) → ((k : Refusal) → r ≡ Err k → ⊥) → checked r ≡ none
+unfolding checked
+unrefused (Okay x) n = refl
+unrefused (Err k) n = absurd (n k refl)
 
 -- ---- what is left, part by part
 
@@ -63,38 +71,38 @@ module _ (m : State) (label owner list : List ℕ) (h : Held m label owner) wher
   unfolding left_by only overwrite
   left_only a n = rw (h.labels, h.owners)
 
-  pub short_leaves : (x : Read) → length list < list_room → left (Refused 0) 0 m label owner list ≡ left_for m list x
+  pub short_leaves : (x : Read) → length list < list_room → left (Refused ShortList) 0 m label owner list ≡ left_for m list x
   unfolding left_for step_with
-  short_leaves x l = rw (lt-ltb (length list) list_room l) (left_only (Refused 0) 0)
+  short_leaves x l = rw (lt-ltb (length list) list_room l) (left_only (Refused ShortList) 0)
 
   module _ (room : list_room ≤ length list) where
-    pub end_leaves : left End 0 m label owner list ≡ left_for m list Nothing
+    pub end_leaves : left End 0 m label owner list ≡ left_for m list no_more
     unfolding left_for step_with step_for
     end_leaves = rw (le-ltb (length list) list_room room) (left_only End 0)
 
-    pub unread_leaves : (k : ℕ) → left (Refused k) 0 m label owner list ≡ left_for m list (Unread k)
+    pub unread_leaves : (k : Refusal) → left (Refused k) 0 m label owner list ≡ left_for m list (Err k)
     unfolding left_for step_with step_for
     unread_leaves k = rw (le-ltb (length list) list_room room) (left_only (Refused k) 0)
 
-    pub disorder_leaves : (r : Record) (n : ℕ) → (m.plan.phase ≡ phase_of (sort_of r) → ⊥) → left (Refused 3) n m label owner list ≡ left_for m list (Got r n)
+    pub disorder_leaves : (r : Record) (n : ℕ) → (m.plan.phase ≡ phase_of (sort_of r) → ⊥) → left (Refused OutOfOrder) n m label owner list ≡ left_for m list (got r n)
     unfolding left_for step_with step_for when taken
-    disorder_leaves r n o = rw (le-ltb (length list) list_room room, ne_eqb m.plan.phase (phase_of (sort_of r)) o) (left_only (Refused 3) n)
+    disorder_leaves r n o = rw (le-ltb (length list) list_room room, ne_eqb (stage m.plan.phase) (stage (phase_of (sort_of r))) (λ e. o (stage_once e))) (left_only (Refused OutOfOrder) n)
 
     -- a question: the answer is all that it leaves
-    pub reply_leaves : (r : Record) (n : ℕ) → is_question (sort_of r) ≡ true → left (reply_to m r) n m label owner list ≡ left_for m list (Got r n)
+    pub reply_leaves : (r : Record) (n : ℕ) → is_question (sort_of r) ≡ true → left (reply_to m r) n m label owner list ≡ left_for m list (got r n)
     unfolding left_for step_with step_for taken only reply_to is_question
     reply_leaves r n q = rw (le-ltb (length list) list_room room, q) (go (sort_of r) q (turned_by m (sort_of r)))
       where
-        go : (x : Sort) → is_question x ≡ true → (o : Option ℕ) → left (taken (by_address m) m 0 x o).answer n m label owner list ≡ left_by list (taken (by_address m) m n x o)
+        go : (x : Sort) → is_question x ≡ true → (o : Option Refusal) → left (taken (by_address m) m 0 x o).answer n m label owner list ≡ left_by list (taken (by_address m) m n x o)
         go x e (some k) = left_only (Refused k) n
         go (set_up u) e none = absurd (true≢false (sym e))
         go (update u) e none = absurd (true≢false (sym e))
         go (question y) e none = unfold accepted answers left_by overwrite in let K = question_keeps m (by_address m) n y in rw (K.list, K.state, h.labels, h.owners)
 
 -- a record in its order: what is left is what it takes
-pub order_leaves : (m : State) (list : List ℕ) → list_room ≤ length list → (r : Record) (n : ℕ) → m.plan.phase ≡ phase_of (sort_of r) → takes m list n r ≡ left_for m list (Got r n)
+pub order_leaves : (m : State) (list : List ℕ) → list_room ≤ length list → (r : Record) (n : ℕ) → m.plan.phase ≡ phase_of (sort_of r) → takes m list n r ≡ left_for m list (got r n)
 unfolding left_for takes step_with step_for when
-order_leaves m list room r n o = rw (le-ltb (length list) list_room room, eq-eqb m.plan.phase (phase_of (sort_of r)) o)
+order_leaves m list room r n o = rw (le-ltb (length list) list_room room, eq-eqb (stage m.plan.phase) (stage (phase_of (sort_of r))) (ap stage o))
 
 -- and by the bytes that were read
 pub read_leaves : (m : State) (list s : List ℕ) (x : Read) → read_of s ≡ x → left_for m list x ≡ left_of m list s
@@ -105,12 +113,12 @@ read_leaves m list s x e = ap (λ (y : Read). left_by list (step_with (by_addres
 
 module _ (m : State) (label owner list : List ℕ) (h : Held m label owner) (n : ℕ) (r : Record) where
   -- it is refused
-  pub turned_takes : (k : ℕ) → refusal m (sort_of r) ≡ some k → left (Refused k) n m label owner list ≡ takes m list n r
+  pub turned_takes : (k : Refusal) → refusal m (sort_of r) ≡ some k → left (Refused k) n m label owner list ≡ takes m list n r
   unfolding takes taken
   turned_takes k e = rw e (left_only m label owner list h (Refused k) n)
 
   -- it sets the hall up and is accepted: the labels and the owners stay
-  pub opened_takes : (u : SetUp) → sort_of r ≡ set_up u → m.plan.phase < 2 → set_up_refusal m.plan u ≡ none
+  pub opened_takes : (u : SetUp) → sort_of r ≡ set_up u → stage m.plan.phase < 2 → set_up_refusal m.plan u ≡ none
       → (m' : State) → m' ≡ with_plan m (planned m.plan u) → left Ok n m' label owner list ≡ takes m list n r
   unfolding takes refusal taken accepted answers leaves writes left_by overwrite
   opened_takes u sets before ok m' state =

@@ -7,7 +7,10 @@ use Rattle.meaning.specs.Winner.{winner}
 use Rattle.meaning.specs.Labels.{on}
 use Rattle.meaning.specs.Working.{owner_word}
 use Rattle.meaning.specs.Changes.{entries_at, overwrite, no_link}
-use Rattle.meaning.specs.Step.{listed}
+use Rattle.meaning.specs.declared.hall.Hall.{Hall}
+use Rattle.meaning.specs.Records.{Update}
+use Rattle.meaning.specs.Step.{listed, updated, node_of}
+use Rattle.meaning.specs.Box.{state_of}
 use Rattle.meaning.specs.Tables.{Sound}
 
 -- the owner of atom k at node v
@@ -62,8 +65,16 @@ pub record Whole (m : State) (label owner : List ℕ) : Type 0 where
   pub owned : Owned m owner
   pub agrees : Agrees m.plan.link label owner
 
+-- the same of a hall
+abbrev pub WholeBy : Hall → Type 0
+WholeBy h = Whole (state_of h) h.label h.owner
+
 -- what an update leaves beside the state: the tables in order, the list and its length
 pub record Listed (m m' : State) (v : ℕ) (label owner list list' : List ℕ) (entries : ℕ) : Type 0 where
   pub whole : Whole m' label owner
   pub written : list' ≡ overwrite (entries_at m m' v (listed m m' v)) list
   pub count : entries ≡ length (listed m m' v)
+
+-- the same of a hall before and after
+abbrev pub ListedIn : Hall → Hall → Update → List ℕ → List ℕ → ℕ → Type 0
+ListedIn h h' u list list' entries = Listed (state_of h) (updated (state_of h) u) (node_of (state_of h) u) h'.label h'.owner list list' entries

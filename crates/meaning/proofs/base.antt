@@ -1,6 +1,8 @@
 -- Numbers, searches, bits and lists, of no hall in particular.
 -- numbers side by side: at most or above, below, equal or above
 pub mod Order
+-- a hall's phase by its number
+pub mod Stages
 -- some number below a bound has a property, the lowest that has, how many have; a table by its entries
 pub mod Search
 -- bits of words: set, cleared, joined; a word by its bits

@@ -7,8 +7,10 @@ use Rattle.meaning.specs.declared.Answer.{Answer}
 use Rattle.meaning.specs.declared.Answer.TheVariants.{End, Refused, Ok, Changed, Loop, NoLoop, Went, Yes, No, Tally}
 use Rattle.meaning.specs.declared.Record.{Record}
 use Rattle.meaning.specs.declared.Record.TheVariants.{Hall, Link, Close, Insert, Remove, Loop as AskLoop, Fate as AskFate, Reach as AskReach, Tally as AskTally}
-use Rattle.meaning.specs.declared.Read.{Read}
-use Rattle.meaning.specs.declared.Read.TheVariants.{End as Nothing, Refused as Unread, Got}
+use Rattle.std.specs.Prelude.{Ok as right, Err as wrong, Some, None}
+use Rattle.meaning.specs.declared.Refusal.{Refusal}
+use Rattle.meaning.specs.declared.Refusal.TheVariants.{ShortList, UnknownKind, CutOff, OutOfOrder, NoNode, NoLink, LinksFull, NoEnd, NoRule, RuleLive, RuleNotLive, NoPrefix, Tie, CutsFull}
+use Rattle.meaning.specs.Records.{Read}
 use Rattle.meaning.specs.declared.Placed.{Placed}
 
 -- the words of the answers
@@ -22,6 +24,23 @@ pub record Said : Type 0 where
 abbrev pub says : Word → List ℕ → Said
 says w ns = record { word = w; values = ns }
 
+-- a refusal's number
+abbrev pub number_of : Refusal → ℕ
+number_of ShortList = 0
+number_of UnknownKind = 1
+number_of CutOff = 2
+number_of OutOfOrder = 3
+number_of NoNode = 4
+number_of NoLink = 5
+number_of LinksFull = 6
+number_of NoEnd = 7
+number_of NoRule = 8
+number_of RuleLive = 9
+number_of RuleNotLive = 10
+number_of NoPrefix = 11
+number_of Tie = 12
+number_of CutsFull = 13
+
 -- out: link and hops; lost: node and hops
 unfoldable pub said_fate : Fate → Said
 said_fate (Out l h) = says out (l ∷ h ∷ [])
@@ -32,7 +51,7 @@ said_fate Round = says round []
 -- yes: address; tally: out, lost, round
 unfoldable pub said : Answer → Said
 said End = says end []
-said (Refused n) = says refused (n ∷ [])
+said (Refused k) = says refused (number_of k ∷ [])
 said Ok = says ok []
 said (Changed n) = says ok (n ∷ [])
 said (Loop a v) = says loop (a ∷ v ∷ [])
@@ -67,9 +86,9 @@ pub data SaidRead : Type 0 where
   whole : Sent → ℕ → SaidRead
 
 unfoldable pub said_read : Read → SaidRead
-said_read Nothing = answered (said End)
-said_read (Unread k) = answered (said (Refused k))
-said_read (Got r n) = whole (sent r) n
+said_read (right None) = answered (said End)
+said_read (wrong k) = answered (said (Refused k))
+said_read (right (Some (r, n))) = whole (sent r) n
 
 -- the same, and the place after it
 pub record SaidPlaced : Type 0 where

@@ -1,10 +1,10 @@
--- The box as it is lent: a struct by value and the lists of the arrays. What it holds, the premise of a step, and what a step and a run leave.
+-- The box as it is lent: a hall with its tables. The state that it holds, the premise of a step, and what a step and a run leave.
 -- Assumes nothing: these are definitions.
 use Rattle.std.specs.Prelude.{◌≡◌, List, ℕ, length}
 use Rattle.meaning.specs.declared.Answer.{Answer}
-use Rattle.meaning.specs.declared.Hall.{Hall}
-use Rattle.meaning.specs.declared.Read.{Read}
-use Rattle.meaning.specs.Hall.{ipv4, State}
+use Rattle.meaning.specs.declared.hall.Hall.{Hall}
+use Rattle.meaning.specs.Hall.{Atoms, ipv4, State}
+use Rattle.meaning.specs.Records.{Read}
 use Rattle.meaning.specs.Labels.{labels_of}
 use Rattle.meaning.specs.Working.{owners_of}
 use Rattle.meaning.specs.Changes.{overwrite}
@@ -13,28 +13,25 @@ use Rattle.meaning.specs.Step.{Done, step_with, step_of}
 use Rattle.meaning.specs.Run.{Ran, run_of, Came}
 use Rattle.meaning.specs.Answers.{Said, said}
 
--- the state that the struct and four of the tables hold, over IPv4 addresses
-abbrev pub state_of : Hall → List ℕ → List ℕ → List ℕ → List ℕ → State
-state_of h link rule cut number = record {
-  width = ipv4;
-  plan = record { phase = h.phase; nodes = h.nodes; links = h.links; link = link };
-  rule = rule;
-  atoms = record { count = h.atoms; cut = cut; number = number };
-}
+-- the state that a hall holds, over IPv4 addresses
+abbrev pub state_of : Hall → State
+state_of h = record { width = ipv4; plan = h.plan; rule = h.rule; atoms = h.atoms }
 
--- THE PREMISE: the box came from a fresh one by records, with its labels and its owners
+-- the state came from a fresh one by records, and these are its labels and its owners
 pub record Held (m : State) (label owner : List ℕ) : Type 0 where
   pub came : Came m
   pub labels : label ≡ labels_of m
   pub owners : owner ≡ owners_of m
 
--- THE PREMISE where only the cuts and the numbers are lent: they are those of such a box
-pub record AtomsHeld (h : Hall) (cut number : List ℕ) : Type 0 where
-  pub link : List ℕ
-  pub rule : List ℕ
-  pub label : List ℕ
-  pub owner : List ℕ
-  pub held : Held (state_of h link rule cut number) label owner
+-- THE PREMISE: the hall came from a fresh one by records, with its labels and its owners
+abbrev pub HeldBy : Hall → Type 0
+HeldBy h = Held (state_of h) h.label h.owner
+
+-- THE PREMISE where only the atoms are lent: they are those of such a hall
+pub record AtomsHeld (atoms : Atoms) : Type 0 where
+  pub hall : Hall
+  pub held : HeldBy hall
+  pub is : hall.atoms ≡ atoms
 
 -- what a step leaves: the answer, the bytes passed, the state, the labels, the owners and the lent list
 pub record Left : Type 0 where
@@ -47,6 +44,10 @@ pub record Left : Type 0 where
 
 abbrev pub left : Answer → ℕ → State → List ℕ → List ℕ → List ℕ → Left
 left a n m label owner list = record { answer = said a; passed = n; state = m; label = label; owner = owner; list = list }
+
+-- the same of a hall
+abbrev pub left_in : Answer → ℕ → Hall → List ℕ → Left
+left_in a n h list = left a n (state_of h) h.label h.owner list
 
 -- a lent list and a step that is done: what is left
 unfoldable pub left_by : List ℕ → Done → Left

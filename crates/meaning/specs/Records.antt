@@ -2,8 +2,11 @@
 -- s are the bytes from the record's first on; a reader's place is a place of the whole stream. Assumes nothing: these are definitions.
 use Rattle.std.specs.Prelude.{List, [], ◌∷◌, Bool, true, false, ◌&&◌, not, ℕ, zero, suc, ◌+◌, ◌*◌, ◌%◌, leb, ltb, eqb, length, get_or, drop}
 use Rattle.meaning.specs.Search.{pick}
-use Rattle.meaning.specs.declared.Read.{Read}
-use Rattle.meaning.specs.declared.Read.TheVariants.{End, Refused, Got}
+use Rattle.std.specs.Prelude.{Result, Ok, Err, Option, Some, None}
+use Rattle.meaning.specs.declared.Refusal.{Refusal}
+use Rattle.meaning.specs.declared.Refusal.TheVariants.{UnknownKind, CutOff}
+use Rattle.meaning.specs.declared.hall.Phase.{Phase}
+use Rattle.meaning.specs.declared.hall.Phase.TheVariants.{Bare, Open, Closed}
 use Rattle.meaning.specs.declared.Placed.{Placed}
 use Rattle.meaning.specs.declared.Record.{Record}
 use Rattle.meaning.specs.declared.Record.TheVariants.{Hall, Link, Close, Insert, Remove, Loop, Fate, Reach, Tally}
@@ -38,18 +41,28 @@ record_of s =
     (get_or s 0 0)
     Close
 
--- what s begins with: nothing, a kind that is unknown (1) or a body that is cut off (2), or a record and its length
+-- what was read: a record and its length; nothing, where no byte is left; or what is refused
+abbrev pub Read : Type 0
+Read = Result (Option (Record × ℕ)) Refusal
+
+abbrev pub no_more : Read
+no_more = Ok None
+
+abbrev pub got : Record → ℕ → Read
+got r n = Ok (Some (r, n))
+
+-- what s begins with: nothing, a kind that is unknown or a body that is cut off, or a record and its length
 unfoldable pub read_of : List ℕ → Read
 read_of s =
-    pick (eqb (length s) 0) End
-    (pick (not (is_kind (get_or s 0 0))) (Refused 1)
-    (pick (ltb (length s) (1 + body_of (get_or s 0 0))) (Refused 2) (Got (record_of s) (1 + body_of (get_or s 0 0)))))
+    pick (eqb (length s) 0) no_more
+    (pick (not (is_kind (get_or s 0 0))) (Err UnknownKind)
+    (pick (ltb (length s) (1 + body_of (get_or s 0 0))) (Err CutOff) (got (record_of s) (1 + body_of (get_or s 0 0)))))
 
--- the place after what was read at a place: the record's end; at "end", 1 and 2 the place stays
+-- the place after what was read at a place: the record's end; at "end" and at a refusal the place stays
 unfoldable pub place_after : ℕ → Read → ℕ
-place_after at End = at
-place_after at (Refused k) = at
-place_after at (Got r n) = at + n
+place_after at (Ok None) = at
+place_after at (Err k) = at
+place_after at (Ok (Some (r, n))) = at + n
 
 -- what is read at a place of a stream: what the rest of the stream, from that place on, begins with; and the place after it
 unfoldable pub placed_at : List ℕ → ℕ → Placed
@@ -88,15 +101,15 @@ sort_of (Reach v w) = question (reach v w)
 sort_of (Tally v) = question (tally v)
 
 -- the phase that a record belongs in: one hall, then links, then one close, then every other sort
-unfoldable pub set_up_phase : SetUp → ℕ
-set_up_phase (hall n) = 0
-set_up_phase (link s c e) = 1
-set_up_phase close = 1
+unfoldable pub set_up_phase : SetUp → Phase
+set_up_phase (hall n) = Bare
+set_up_phase (link s c e) = Open
+set_up_phase close = Open
 
-unfoldable pub phase_of : Sort → ℕ
+unfoldable pub phase_of : Sort → Phase
 phase_of (set_up u) = set_up_phase u
-phase_of (update u) = 2
-phase_of (question q) = 2
+phase_of (update u) = Closed
+phase_of (question q) = Closed
 
 -- the records that ask and change nothing
 unfoldable pub is_question : Sort → Bool

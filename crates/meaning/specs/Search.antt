@@ -2,8 +2,7 @@
 -- Assumes nothing: these are definitions.
 use Rattle.std.specs.Prelude.{Bool, true, false, ◌||◌, List, [], ◌∷◌, ℕ, zero, suc, ◌+◌}
 use Rattle.std.proofs.Math.Option.{Option, none, some}
-use Rattle.meaning.specs.declared.Found.{Found}
-use Rattle.meaning.specs.declared.Found.TheVariants.{At, Nothing}
+use Rattle.std.specs.Prelude.{Option as Found, Some as At, None as Nothing}
 
 -- the first where the test holds, else the second
 abbrev pub pick {ℓ} : {A : Type ℓ} → Bool → A → A → A
@@ -26,7 +25,7 @@ lowest_below zero P = none
 lowest_below (suc n) P = or_else (lowest_below n P) (pick (P n) (some n) none)
 
 -- what was found, as such a number
-unfoldable pub found : Found → Option ℕ
+unfoldable pub found : Found ℕ → Option ℕ
 found (At i) = some i
 found Nothing = none
 

@@ -3,47 +3,47 @@
 use Rattle.std.specs.Prelude.{List, [], Bool, not, ◌&&◌, ◌||◌, ℕ, ◌+◌, ◌*◌, ◌%◌, leb, ltb, eqb, length, set}
 use Rattle.std.proofs.Math.Option.{Option, none, some}
 use Rattle.meaning.specs.declared.Record.{Record}
-use Rattle.meaning.specs.declared.Read.{Read}
-use Rattle.meaning.specs.declared.Read.TheVariants.{End as Nothing, Refused as Unread, Got}
-use Rattle.meaning.specs.declared.Check.{Check}
-use Rattle.meaning.specs.declared.Check.TheVariants.{Passed, Refused as Turned}
+use Rattle.std.specs.Prelude.{Result, Ok as right, Err as wrong, Some, None, ⊤}
+use Rattle.meaning.specs.declared.Refusal.{Refusal}
+use Rattle.meaning.specs.declared.Refusal.TheVariants.{ShortList, OutOfOrder, NoNode, NoLink, LinksFull, NoEnd, NoRule, RuleLive, RuleNotLive, NoPrefix, Tie, CutsFull}
+use Rattle.meaning.specs.declared.hall.Phase.TheVariants.{Open, Closed}
 use Rattle.meaning.specs.declared.Answer.{Answer}
 use Rattle.meaning.specs.declared.Answer.TheVariants.{End, Refused, Ok, Changed}
 use Rattle.meaning.specs.Search.{pick, any_below}
-use Rattle.meaning.specs.Hall.{Plan, State, source_of, link_word}
+use Rattle.meaning.specs.Hall.{Plan, stage, State, source_of, link_word}
 use Rattle.meaning.specs.Rule.{span, rule_word, live, rank, lower, upper, overlap}
 use Rattle.meaning.specs.Winner.{rule_at, node_for}
 use Rattle.meaning.specs.Atoms.{with_cut, is_boundary}
 use Rattle.meaning.specs.Changes.{entry_words, changed_places, entries_at}
 use Rattle.meaning.specs.Questions.{by_address}
-use Rattle.meaning.specs.Records.{read_of, SetUp, hall, link, close, Update, insert, remove, Question, loop, fate, reach, tally, Sort, set_up, update, question, sort_of, phase_of, is_question}
+use Rattle.meaning.specs.Records.{Read, got, read_of, SetUp, hall, link, close, Update, insert, remove, Question, loop, fate, reach, tally, Sort, set_up, update, question, sort_of, phase_of, is_question}
 
--- n where the test holds, else what the next checks say
-unfoldable pub when : Bool → ℕ → Option ℕ → Option ℕ
-when t n o = pick t (some n) o
+-- a refusal where the test holds, else what the next checks say
+unfoldable pub when : Bool → Refusal → Option Refusal → Option Refusal
+when t k o = pick t (some k) o
 
--- a check's outcome as such a number
-unfoldable pub checked : Check → Option ℕ
-checked Passed = none
-checked (Turned k) = some k
+-- a check's outcome as such a refusal
+unfoldable pub checked : Result ⊤ Refusal → Option Refusal
+checked (right x) = none
+checked (wrong k) = some k
 
 -- ---- a set-up record changes the plan
 
--- the number by which one in its order is refused, by its kind's checks in their order; or none
-unfoldable pub set_up_refusal : Plan → SetUp → Option ℕ
-set_up_refusal p (hall n) = when (eqb n 0 || ltb 16 n) 4 none
+-- the refusal of one in its order, by its kind's checks in their order; or none
+unfoldable pub set_up_refusal : Plan → SetUp → Option Refusal
+set_up_refusal p (hall n) = when (eqb n 0 || ltb 16 n) NoNode none
 set_up_refusal p (link s c e) =
-    when (leb 64 p.links) 6
-    (when (leb p.nodes s) 4
-    (when (ltb 2 c || (eqb c 2 && not (eqb e 0))) 7
-    (when (eqb c 0 && leb p.nodes e) 4 none)))
+    when (leb 64 p.links) LinksFull
+    (when (leb p.nodes s) NoNode
+    (when (ltb 2 c || (eqb c 2 && not (eqb e 0))) NoEnd
+    (when (eqb c 0 && leb p.nodes e) NoNode none)))
 set_up_refusal p close = none
 
 -- the plan that it leaves, and the state with that plan
 unfoldable pub planned : Plan → SetUp → Plan
-planned p (hall n) = record { phase = 1; nodes = n; links = p.links; link = p.link }
+planned p (hall n) = record { phase = Open; nodes = n; links = p.links; link = p.link }
 planned p (link s c e) = record { phase = p.phase; nodes = p.nodes; links = p.links + 1; link = set p.link p.links (link_word s (c * 256 + e)) }
-planned p close = record { phase = 2; nodes = p.nodes; links = p.links; link = p.link }
+planned p close = record { phase = Closed; nodes = p.nodes; links = p.links; link = p.link }
 
 abbrev pub with_plan : State → Plan → State
 with_plan m p = record { width = m.width; plan = p; rule = m.rule; atoms = m.atoms }
@@ -65,16 +65,16 @@ clashes m w =
 unfoldable pub added : State → ℕ → ℕ
 added m w = pick (is_boundary m (lower m.width w)) 0 1 + pick (is_boundary m (upper m.width w)) 0 1
 
--- the number by which one in its order is refused, by its kind's checks in their order; or none
-unfoldable pub update_refusal : State → Update → Option ℕ
+-- the refusal of one in its order, by its kind's checks in their order; or none
+unfoldable pub update_refusal : State → Update → Option Refusal
 update_refusal m (insert r l p n t) =
-    when (ltb 255 r) 8
-    (when (live (rule_at m r)) 9
-    (when (leb m.plan.links l) 5
-    (when (ltb m.width n || ragged m.width p n) 11
-    (when (clashes m (rule_word m.width l p n t)) 12
-    (when (ltb 512 (m.atoms.count + added m (rule_word m.width l p n t))) 13 none)))))
-update_refusal m (remove r) = when (ltb 255 r) 8 (when (not (live (rule_at m r))) 10 none)
+    when (ltb 255 r) NoRule
+    (when (live (rule_at m r)) RuleLive
+    (when (leb m.plan.links l) NoLink
+    (when (ltb m.width n || ragged m.width p n) NoPrefix
+    (when (clashes m (rule_word m.width l p n t)) Tie
+    (when (ltb 512 (m.atoms.count + added m (rule_word m.width l p n t))) CutsFull none)))))
+update_refusal m (remove r) = when (ltb 255 r) NoRule (when (not (live (rule_at m r))) RuleNotLive none)
 
 -- rule r has the word w
 unfoldable pub with_rule : State → ℕ → ℕ → State
@@ -103,23 +103,23 @@ changes m u = listed m (updated m u) (node_of m u)
 
 -- ---- a question changes nothing
 
--- the number by which one in its order is refused, by its kind's checks in their order; or none
-unfoldable pub question_refusal : Plan → Question → Option ℕ
+-- the refusal of one in its order, by its kind's checks in their order; or none
+unfoldable pub question_refusal : Plan → Question → Option Refusal
 question_refusal p loop = none
-question_refusal p (fate v a) = when (leb p.nodes v) 4 none
-question_refusal p (reach v w) = when (leb p.nodes v) 4 (when (leb p.nodes w) 4 none)
-question_refusal p (tally v) = when (leb p.nodes v) 4 none
+question_refusal p (fate v a) = when (leb p.nodes v) NoNode none
+question_refusal p (reach v w) = when (leb p.nodes v) NoNode (when (leb p.nodes w) NoNode none)
+question_refusal p (tally v) = when (leb p.nodes v) NoNode none
 
 -- ---- a record of any sort
 
-unfoldable pub refusal : State → Sort → Option ℕ
+unfoldable pub refusal : State → Sort → Option Refusal
 refusal m (set_up u) = set_up_refusal m.plan u
 refusal m (update u) = update_refusal m u
 refusal m (question q) = question_refusal m.plan q
 
--- the number by which a record is refused: 3 where it is out of its order, else by its kind's own checks; or none
-abbrev pub turned_by : State → Sort → Option ℕ
-turned_by m r = when (not (eqb m.plan.phase (phase_of r))) 3 (refusal m r)
+-- the refusal of a record: out of its order, else by its kind's own checks; or none
+abbrev pub turned_by : State → Sort → Option Refusal
+turned_by m r = when (not (eqb (stage m.plan.phase) (stage (phase_of r)))) OutOfOrder (refusal m r)
 
 -- what an accepted record leaves, and what it writes
 unfoldable pub leaves : State → Sort → State
@@ -134,7 +134,7 @@ writes m (question q) = []
 
 -- ---- one step
 
--- 0: a list must have room for an entry of every atom
+-- a list must have room for an entry of every atom
 abbrev pub list_room : ℕ
 list_room = 512 * entry_words
 
@@ -159,20 +159,20 @@ module _ (ask : Question → Answer) where
   unfoldable pub accepted : State → ℕ → Sort → Done
   accepted m n r = record { answer = answers m r; passed = n; left = leaves m r; written = writes m r }
 
-  -- a record of n bytes that is refused by a number, or by none
-  unfoldable pub taken : State → ℕ → Sort → Option ℕ → Done
+  -- a record of n bytes that is refused, or by none of its checks
+  unfoldable pub taken : State → ℕ → Sort → Option Refusal → Done
   taken m n r (some k) = only m n (Refused k)
   taken m n r none = accepted m n r
 
-  -- by what was read: at "end", 1 and 2 no byte is gone past
+  -- by what was read: at "end" and where no record is there no byte is gone past
   unfoldable pub step_for : State → Read → Done
-  step_for m Nothing = only m 0 End
-  step_for m (Unread k) = only m 0 (Refused k)
-  step_for m (Got r n) = taken m n (sort_of r) (turned_by m (sort_of r))
+  step_for m (right None) = only m 0 End
+  step_for m (wrong k) = only m 0 (Refused k)
+  step_for m (right (Some (r, n))) = taken m n (sort_of r) (turned_by m (sort_of r))
 
   -- where the lent list has room words
   unfoldable pub step_with : State → ℕ → Read → Done
-  step_with m room x = pick (ltb room list_room) (only m 0 (Refused 0)) (step_for m x)
+  step_with m room x = pick (ltb room list_room) (only m 0 (Refused ShortList)) (step_for m x)
 
 -- THE MEANING of one step: the next record of the bytes s
 unfoldable pub step_of : State → ℕ → List ℕ → Done
@@ -180,4 +180,4 @@ step_of m room s = step_with (by_address m) m room (read_of s)
 
 -- the answer to a question alone; a record that asks nothing is out of its order among questions
 unfoldable pub reply_to : State → Record → Answer
-reply_to m r = pick (is_question (sort_of r)) (step_for (by_address m) m (Got r 0)).answer (Refused 3)
+reply_to m r = pick (is_question (sort_of r)) (step_for (by_address m) m (got r 0)).answer (Refused OutOfOrder)

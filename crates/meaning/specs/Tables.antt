@@ -1,7 +1,8 @@
 -- Tables and states in order: boundaries that rise from 0 to the top, numbers that are apart, and what holds of every state that came by records.
 -- What the laws and the code's proofs speak of, and nothing that a reader must believe. Assumes nothing: these are definitions.
 use Rattle.std.specs.Prelude.{◌≡◌, List, true, false, ℕ, ◌+◌, ◌/◌, ◌%◌, ◌≤◌, ◌<◌, length, get_or}
-use Rattle.meaning.specs.Hall.{Plan, State, top}
+use Rattle.meaning.specs.declared.hall.Phase.TheVariants.{Bare}
+use Rattle.meaning.specs.Hall.{Plan, stage, State, top}
 use Rattle.meaning.specs.Rule.{live, lower, upper, link_of, rank, overlap}
 use Rattle.meaning.specs.Winner.{rule_at, node_for}
 
@@ -48,7 +49,7 @@ pub record Laid (p : Plan) : Type 0 where
   pub sources : (l : ℕ) → l < p.links → get_or p.link l 0 / 1024 < p.nodes
   pub ends : (l : ℕ) → l < p.links → get_or p.link l 0 % 1024 < 256 → get_or p.link l 0 % 1024 < p.nodes
   pub unused : (l : ℕ) → p.links ≤ l → get_or p.link l 0 ≡ 0
-  pub bare : p.phase ≡ 0 → (p.links ≡ 0) × (p.nodes ≡ 0)
+  pub bare : p.phase ≡ Bare → (p.links ≡ 0) × (p.nodes ≡ 0)
 
 -- the whole state; no rule is live before the close
 pub record Sound (m : State) : Type 0 where
@@ -62,4 +63,4 @@ pub record Sound (m : State) : Type 0 where
   pub distinct : (i j : ℕ) → i < 256 → j < 256 → live (rule_at m i) ≡ true → live (rule_at m j) ≡ true
       → node_for m (rule_at m i) ≡ node_for m (rule_at m j) → rank m.width (rule_at m i) ≡ rank m.width (rule_at m j)
       → overlap m.width (rule_at m i) (rule_at m j) ≡ true → i ≡ j
-  pub idle : m.plan.phase < 2 → (i : ℕ) → live (rule_at m i) ≡ false
+  pub idle : stage m.plan.phase < 2 → (i : ℕ) → live (rule_at m i) ≡ false

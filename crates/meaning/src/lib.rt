@@ -1,5 +1,12 @@
-// The types of the box: what it keeps by value, the records that it reads and the answers that it gives.
+// The types of the box: what it keeps, the records that it reads and the answers that it gives.
 #![tactic(auto)]
+
+ghost use Rattle.std.specs.Prelude.{◌≡◌};
+ghost use Rattle.meaning.specs.Answers.{number_of};
+
+mod hall;
+
+pub use hall::{Atoms, End, Hall, Phase, Plan, Rule};
 
 // How many words a lent change list must have room for: an entry of five for each of 512 atoms.
 pub const LIST_ROOM: usize = 2560;
@@ -15,11 +22,53 @@ pub enum Fate {
     Round,
 }
 
+// Why a record is refused, in the order of the document's numbers, which begin at 0.
+#[derive(Clone, Copy, PartialEq, Eq)]
+pub enum Refusal {
+    // the lent change list has room for fewer than 512 entries
+    ShortList,
+    // kind 0 or above 9
+    UnknownKind,
+    // fewer bytes left than the body needs
+    CutOff,
+    // kind out of its order
+    OutOfOrder,
+    // node count 0 or above 16, or a node number not below the count
+    NoNode,
+    // insert names an undeclared link
+    NoLink,
+    // 64 links are declared already
+    LinksFull,
+    // end code above 2, or drop with a number other than 0
+    NoEnd,
+    // rule number above 255
+    NoRule,
+    // insert: number is live
+    RuleLive,
+    // remove: number is not live
+    RuleNotLive,
+    // length above 32, or a one bit in the prefix below its length
+    NoPrefix,
+    // a live rule at the same node overlaps with equal priority
+    Tie,
+    // more than 511 inner boundaries would exist
+    CutsFull,
+}
+
+// The document's number of a refusal.
+impl From<Refusal> for u8 {
+    ghost from_gives = { λ why n. n ≡ number_of why };
+
+    fn from(why: Refusal) -> u8 {
+        why as u8
+    }
+}
+
 // What a record is answered with.
 #[derive(Clone, Copy)]
 pub enum Answer {
     End,
-    Refused(u8),
+    Refused(Refusal),
     Ok,
     Changed(u16),
     Loop(u64, u8),
@@ -44,39 +93,8 @@ pub enum Record {
     Tally(u8),
 }
 
-// What a hall keeps beside its tables: phase 0 before the hall record, 1 while links come, 2 once closed.
-#[derive(Clone, Copy)]
-pub struct Hall {
-    pub phase: u8,
-    pub nodes: u8,
-    pub links: u8,
-    pub atoms: u16,
-}
-
-// Where a link ends.
-#[derive(Clone, Copy)]
-pub enum End {
-    Node(u8),
-    Port(u8),
-    Drop,
-}
-
-// A rule's parts beside its number.
-#[derive(Clone, Copy)]
-pub struct Rule {
-    pub link: u8,
-    pub prefix: u32,
-    pub length: u8,
-    pub priority: u16,
-}
-
-// What the bytes from a place on begin with: no record, for want of bytes or by a refusal; or a record, with how many bytes it has.
-#[derive(Clone, Copy)]
-pub enum Read {
-    End,
-    Refused(u8),
-    Got(Record, usize),
-}
+// What the bytes from a place on begin with: a record, with how many bytes it has; nothing, for want of bytes; or what is refused.
+pub type Read = Result<Option<(Record, usize)>, Refusal>;
 
 // What is read at a place of a stream, and the place after it.
 #[derive(Clone, Copy)]
@@ -85,39 +103,16 @@ pub struct Placed {
     pub place: usize,
 }
 
-// What a record's own checks say.
-#[derive(Clone, Copy)]
-pub enum Check {
-    Passed,
-    Refused(u8),
-}
-
-// A number that was looked for.
-#[derive(Clone, Copy)]
-pub enum Found {
-    At(usize),
-    Nothing,
-}
-
-// What a step returns: the answer, how many bytes it went past, and what the hall keeps by value.
+// What a step returns: the answer, and how many bytes it went past.
 #[derive(Clone, Copy)]
 pub struct Step {
     pub answer: Answer,
     pub passed: usize,
-    pub hall: Hall,
 }
 
-// What a run over a whole stream returns: how many records it went past, the answer that it stopped at, and what the hall keeps by value.
+// What a run over a whole stream returns: how many records it went past, and the answer that it stopped at.
 #[derive(Clone, Copy)]
 pub struct Ran {
     pub past: usize,
     pub stopped: Answer,
-    pub hall: Hall,
-}
-
-// What an accepted insert or remove returns: what the hall keeps by value, and how many entries it wrote to the change list.
-#[derive(Clone, Copy)]
-pub struct Updated {
-    pub hall: Hall,
-    pub listed: u16,
 }

@@ -1,13 +1,23 @@
--- Writing one text after another writes the two joined. Assumes nothing.
-use mathlib.Core.Path.{◌≡◌, refl, sym, ap, ◌∙◌}
-use mathlib.Core.List.{List, [], ◌∷◌, ◌++◌}
-use Prim.Native.Nat.{ℕ, suc, ◌+◌, ◌≤◌, ◌<◌}
+-- A text that is stored, and writing one text after another, which writes the two joined. Assumes nothing.
+use Rattle.std.proofs.Common.{◌≡◌, ℕ, suc, ◌+◌, ◌-◌, ◌≤◌, List, [], ◌∷◌, ◌++◌, length, set, take, drop, refl, sym, ap, ◌∙◌, append_assoc, arith, length-append, drop-drop}
+use Rattle.std.proofs.lemmas.List.Edits.{sets, sets-eq}
+use Rattle.std.proofs.Math.Seq.{length-sets}
 use native.Mathlib.Nat.{add-zero, add-suc, suc-add}
-use native.Mathlib.Omega.{arith}
-use native.Mathlib.Numerals.{add-one}
-use lib.ListN.{length, set, get_or, take, length-append, length-set}
-use lib.Seq.{sets, take-suc, take-length}
+use borrow.Rule.Slice.PartMut.{put_mid}
 use Rattle.print.specs.Text.{Wrote}
+
+-- a text that is copied to its place, as `buf[at..next]` shows it
+pub stored : (text old part : List ℕ) (at : ℕ) → part ≡ text → at + length text ≤ length old
+    → Wrote (length text) text old (put_mid at (at + length text - at) old part) at (at + length text)
+stored text old part at e h =
+    let size : at + length text - at ≡ length text = omega arith in
+    let same : put_mid at (at + length text - at) old part ≡ sets old at text =
+    ap (put_mid at (at + length text - at) old) e
+    ∙ ap (λ (k : ℕ). put_mid at k old text) size
+    ∙ ap (λ (s : List ℕ). take at old ++ (text ++ s)) (drop-drop (length text) at old)
+    ∙ sym (append_assoc (take at old) text (drop (at + length text) old))
+    ∙ sym (sets-eq text old at (omega arith)) in
+    record { bytes = same; moved = refl; kept = ap length same ∙ length-sets old at text; near = omega arith }
 
 -- stores of one text and then of another just behind it
 sets_both : (xs ys l : List ℕ) (i : ℕ) → sets (sets l i xs) (i + length xs) ys ≡ sets l i (xs ++ ys)
@@ -37,27 +47,3 @@ also {m} {n} {xs} {ys} {old} {new} {at} {next} e h w = record {
   kept = w.kept;
   near = omega (arith, w.near);
 }
-
--- one byte more of a text that is copied byte by byte
-pub copied : (text old buf : List ℕ) (at i : ℕ) → i < length text → Wrote i (take i text) old buf at (at + i)
-    → Wrote (i + 1) (take (i + 1) text) old (set buf (at + i) (get_or text i 0)) at (at + (i + 1))
-copied text old buf at i h w =
-    let x = get_or text i 0 in
-    let store : Wrote 1 (x ∷ []) buf (set buf (at + i) x) (at + i) (at + (i + 1)) = record {
-      bytes = refl;
-      moved = omega arith;
-      kept = length-set buf (at + i) x;
-      near = omega arith;
-    } in
-    also (sym (ap (λ (k : ℕ). take k text) (add-one i) ∙ take-suc text i 0 h)) (omega arith) (both w store)
-
--- before the first byte
-pub none : {old : List ℕ} {at : ℕ} → Wrote 0 [] old old at (at + 0)
-none = record { bytes = refl; moved = refl; kept = refl; near = omega arith }
-
--- and after the last
-pub whole : (text old buf : List ℕ) (at i : ℕ) → i ≤ length text → length text ≤ i → Wrote i (take i text) old buf at (at + i)
-    → Wrote (length text) text old buf at (at + length text)
-whole text old buf at i h h' w =
-    let e : i ≡ length text = omega arith in
-    also (take-length text) (omega arith) (rw e at w)

@@ -5,71 +5,45 @@ use mathlib.Core.Bool.{Bool, true, false, not, true≢false, ◌||◌}
 use mathlib.Core.List.{List}
 use mathlib.Core.Option.{Option}
 use Prim.Native.Nat.{ℕ, zero, suc, ◌+◌, ◌-◌, ◌*◌, ◌/◌, ◌%◌, ◌^◌, ◌≤◌, ◌<◌}
-use native.Mathlib.Nat.{mod-eq_of_lt, add-zero}
+use native.Mathlib.Nat.{mod-eq_of_lt}
 use native.Mathlib.Decide.{ℕ_discrete, dec_lt}
 use native.Mathlib.Omega.{arith}
-use borrow.Author.Count.{below_more}
 use lib.Bits.{bit_or, bit_and, or_comm}
 use lib.Dec.{eqb}
 use lib.ListN.{length, get_or, set}
 use lib.Seq.{get_or-set_same, get_or-set_other}
-use borrow.Author.Tests.{eq-eqb, eqb-true, not-false, le-ltb}
+use borrow.Author.Tests.{eq-eqb, eqb-true, le-ltb}
 use Rattle.meaning.specs.Records.{loop, reach}
 use Rattle.meaning.specs.declared.Answer.TheVariants.{NoLoop, No}
-use Rattle.meaning.specs.Hall.{State}
+use Rattle.meaning.specs.declared.hall.Hall.{Hall}
+use Rattle.meaning.specs.Box.{state_of}
 use Rattle.meaning.specs.Labels.{bit, on}
 use Rattle.meaning.specs.Questions.{by_address}
 use Rattle.meaning.specs.Walk.{at, leave, move, after, stands_at, on_circle, comes_to}
 use Rattle.meaning.proofs.base.Order.{clash, le_or_lt}
-use Rattle.meaning.proofs.base.Bits.{bit_lt, zero_bits, or_none, or_bits, not_bits}
+use Rattle.meaning.proofs.base.Bits.{bit_lt, or_bits, not_bits}
 use Rattle.meaning.proofs.base.Search.{any_true, any_some}
 use Rattle.meaning.proofs.walk.Tests.{stands_at_lem, at_stands}
 use Rattle.meaning.proofs.walk.Walks.{after_add, after_suc, going_le}
 use Rattle.meaning.proofs.walk.Circles.{round_again}
-use Rattle.lent.specs.Owners.{owner_in, via, next_in, end_in, Whole}
+use Rattle.lent.specs.Owners.{owner_in, via, next_in, end_in, WholeBy}
 use Rattle.lent.specs.Nodes.{among, Off}
 use Rattle.lent.proofs.Walking.{in_none, in_all, in_either, in_both, in_alone, in_new, in_old, NotYet, no_owner, to_node, to_end}
 use Rattle.lent.proofs.Labelled.{via_named, starts}
 use Rattle.lent.proofs.Questions.{small_atom, ends_of, loop_none, reach_none}
 use Rattle.questions.specs.Moves.{ComesBy}
-use Rattle.questions.specs.Leads.{Empty, leads_to, Leads, LetLead, Circular, OffLeads, Met, Widened, TowardLeads, Together, OffWalks, TowardWalks}
+use Rattle.questions.specs.Leads.Grown.{started, grew}
+use Rattle.questions.specs.Leads.{leads_to, Leads, LetLead, Grown, Circular, OffLeads, Met, Widened, TowardLeads, Together, OffWalks, TowardWalks}
 
 -- what is true and false at once
 both : {t : Bool} → t ≡ true → t ≡ false → ⊥
 both e f = true≢false (sym e ∙ f)
 
--- ---- a link that has no atom
-
--- the words of link l, put together
-abbrev words : List ℕ → ℕ → ℕ
-words label i =
-    bit_or (bit_or (bit_or (bit_or (bit_or (bit_or (bit_or (get_or label i 0) (get_or label (i + 1) 0)) (get_or label (i + 2) 0)) (get_or label (i + 3) 0)) (get_or label (i + 4) 0)) (get_or label (i + 5) 0)) (get_or label (i + 6) 0)) (get_or label (i + 7) 0)
-
-each_word : (label : List ℕ) (i : ℕ) → words label i ≡ 0 → (j : ℕ) → j < 8 → get_or label (i + j) 0 ≡ 0
-each_word label i e =
-    let h = or_none _ _ e in
-    let g = or_none _ _ h.0 in
-    let f = or_none _ _ g.0 in
-    let e = or_none _ _ f.0 in
-    let d = or_none _ _ e.0 in
-    let c = or_none _ _ d.0 in
-    let b = or_none _ _ c.0 in
-    more 7 (more 6 (more 5 (more 4 (more 3 (more 2 (more 1 (more 0 (λ j l. absurd (omega arith)) (rw add-zero b.0)) b.1) c.1) d.1) e.1) f.1) g.1) h.1
-  where
-    more : (n : ℕ) → ((j : ℕ) → j < n → get_or label (i + j) 0 ≡ 0) → get_or label (i + n) 0 ≡ 0 → (j : ℕ) → j < n + 1 → get_or label (i + j) 0 ≡ 0
-    more n = below_more (λ j. get_or label (i + j) 0 ≡ 0) n
-
-pub no_atom : (label : List ℕ) (l : ℕ) → not (eqb (words label (8 * l)) 0) ≡ false → Empty label l
-no_atom label l f = record {
-  none_on = λ k h.
-      let z : get_or label (8 * l + k / 64) 0 ≡ 0 = each_word label (8 * l) (eqb-true _ _ (not-false _ f)) (k / 64) (omega arith) in
-      ap (λ (x : ℕ). eqb (bit x (k % 64)) 1) z ∙ zero_bits (k % 64);
-}
-
 -- ---- leads, link by link
 
-pub leads_none : (link label lead : List ℕ) → Leads link label 0 lead
-leads_none link label lead = record { by = λ l k h. absurd (omega arith) }
+-- of no link nothing is said
+pub leads_none : (hall : Hall) (lead : List ℕ) → Leads hall 0 lead
+leads_none hall lead = record { by = λ l k h. absurd (omega arith) }
 
 pub let_lead : (before : List ℕ) (v u : ℕ) → length before ≡ 16 → v < 16 → u < 16 → LetLead before (set before v (bit_or (get_or before v 0) (1 * 2 ^ u % 65536))) v u
 let_lead before v u size hv hu = record {
@@ -83,29 +57,12 @@ let_lead before v u size hv hu = record {
         (in_either (get_or before v 0) (1 * 2 ^ u % 65536) y (rw q at e))
     go x y e (no n) = rw (get_or-set_other before v x (bit_or (get_or before v 0) (1 * 2 ^ u % 65536)) 0 n) e
 
--- one link more
-module _ (link label lead : List ℕ) (l : ℕ) (L : Leads link label l lead) where
-  more : (after : List ℕ) → ((x y : ℕ) → leads_to lead x y ≡ true → leads_to after x y ≡ true)
-      → ((k : ℕ) → k < 512 → on label l k ≡ true → get_or link l 0 / 1024 < 16 → get_or link l 0 % 1024 < 16 → leads_to after (get_or link l 0 / 1024) (get_or link l 0 % 1024) ≡ true)
-      → Leads link label (l + 1) after
-  more after kept f = record { by = λ i k hi hk e s t. go i k hk e s t hi (ℕ_discrete i l) }
-    where
-      go : (i k : ℕ) → k < 512 → on label i k ≡ true → get_or link i 0 / 1024 < 16 → get_or link i 0 % 1024 < 16 → i < l + 1 → Dec (i ≡ l)
-          → leads_to after (get_or link i 0 / 1024) (get_or link i 0 % 1024) ≡ true
-      go i k hk e s t hi (yes q) = rw q (f k hk (rw q at e) (rw q at s) (rw q at t))
-      go i k hk e s t hi (no n) = kept (get_or link i 0 / 1024) (get_or link i 0 % 1024) (L.by i k (omega arith) hk e s t)
+-- ---- sets that grow
 
-  pub leads_let : (after : List ℕ) (v : ℕ) → v ≡ get_or link l 0 / 1024 → LetLead lead after v (get_or link l 0 % 1024) → Leads link label (l + 1) after
-  leads_let after v q J = more after J.kept (λ k hk e s t. sym (ap (λ (x : ℕ). leads_to after x (get_or link l 0 % 1024)) q) ∙ J.new)
-
-  pub leads_empty : Empty label l → Leads link label (l + 1) lead
-  leads_empty E = more lead (λ x y e. e) (λ k hk e s t. absurd (both e (E.none_on k hk)))
-
-  pub leads_out : 16 ≤ get_or link l 0 % 1024 → Leads link label (l + 1) lead
-  leads_out h = more lead (λ x y e. e) (λ k hk e s t. absurd (omega arith))
-
-  pub leads_from : 16 ≤ get_or link l 0 / 1024 → Leads link label (l + 1) lead
-  leads_from h = more lead (λ x y e. e) (λ k hk e s t. absurd (omega arith))
+-- what each step keeps is kept
+pub grown_keeps : (R : ℕ → ℕ → Type 0) (P : ℕ → Type 0) → ((x y : ℕ) → P x → R x y → P y) → (a b : ℕ) → P a → Grown R a b → P b
+grown_keeps R P step a _ p started = p
+grown_keeps R P step a _ p (grew x y g r) = step x y (grown_keeps R P step a x p g) r
 
 -- ---- nodes on no circle of leads
 
@@ -122,9 +79,6 @@ off_more lead off v h O e = record { none_in = λ C o x i. ⊎_elim (O.none_in C
         let r = o.on v f in
         let i : among off r.0 ≡ true = rw e at (in_either (get_or lead v 0) off r.0 r.2) in
         absurd (both r.1 (O.none_in C o r.0 i))
-
-pub met_none : (lead : List ℕ) (off : ℕ) → Met lead off 0 0
-met_none lead off = record { led = λ v u h. absurd (omega arith) }
 
 module _ (lead : List ℕ) (off v met : ℕ) (M : Met lead off v met) where
   pub met_off : (bit off v ≡ 0 → ⊥) → Met lead off (v + 1) met
@@ -163,9 +117,6 @@ off_unmet lead off met O M = record { none_in = λ C o v i. go C o v (among off 
 
 -- ---- nodes that lead to w
 
-pub widened_none : (lead : List ℕ) (to : ℕ) → Widened lead to 0 to
-widened_none lead to = record { kept = λ v e. e; back = λ v u h. absurd (omega arith) }
-
 module _ (lead : List ℕ) (to v more : ℕ) (F : Widened lead to v more) where
   wider : (after : ℕ) → ((x : ℕ) → among more x ≡ true → among after x ≡ true)
       → ((u : ℕ) → leads_to lead v u ≡ true → among to u ≡ true → among after v ≡ true) → Widened lead to (v + 1) after
@@ -189,108 +140,105 @@ toward_start w h = rw (mod-eq_of_lt h) (in_alone w h)
 pub toward_settled : (lead : List ℕ) (w to more : ℕ) → (w < 16 → among to w ≡ true) → Widened lead to 16 more → more ≡ to → TowardLeads lead w to
 toward_settled lead w to more s F e = record { start = s; back = λ v u h f i. rw e at (F.back v u h f i) }
 
-pub toward_all : (lead : List ℕ) (w : ℕ) → TowardLeads lead w 65535
-toward_all lead w = record { start = in_all w; back = λ v u h f i. in_all v h }
-
 -- ---- the walks of all atoms
 
-pub together : (m : State) (label owner : List ℕ) → Whole m label owner → Together m.plan.link label owner
-together m label owner W = record { agrees = W.agrees; starts = starts m label owner W; ends = ends_of m label owner W }
+pub together : {hall : Hall} → WholeBy hall → Together hall.plan.link hall.label hall.owner
+together W = record { agrees = W.agrees; starts = starts _ _ _ W; ends = ends_of _ _ _ W }
 
 -- no move leads on from a node that is none of 16
 past : (owner : List ℕ) (end : ℕ → ℕ) (k v u : ℕ) → 16 ≤ v → move (next_in owner k) end (at v) ≡ at u → ⊥
 unfolding move leave next_in
 past owner end k v u h e = clash (cc (le-ltb v 16 h, e))
 
-module _ (link label lead owner : List ℕ) (L : Leads link label 64 lead) (T : Together link label owner) (k : ℕ) (hk : k < 512) where
+module _ (hall : Hall) (lead owner : List ℕ) (L : Leads hall 64 lead) (T : Together hall.plan.link hall.label owner) (k : ℕ) (hk : k < 512) where
   -- one move goes by a link that has the atom, so it is a lead
-  by_link : (v u : ℕ) → move (next_in owner k) (end_in link) (at v) ≡ at u → v < 16 → (owner_in owner k v ≡ 0 → ⊥)
-      → end_in link (owner_in owner k v / 512 % 64) < 256 → (u < 16) × (leads_to lead v u ≡ true)
+  by_link : (v u : ℕ) → move (next_in owner k) (end_in hall.plan.link) (at v) ≡ at u → v < 16 → (owner_in owner k v ≡ 0 → ⊥)
+      → end_in hall.plan.link (owner_in owner k v / 512 % 64) < 256 → (u < 16) × (leads_to lead v u ≡ true)
   unfolding end_in
   by_link v u e h n l =
       let x : ℕ = owner_in owner k v / 512 % 64 in
       let small : x < 64 = omega arith in
-      let near : get_or link x 0 % 1024 < 16 = T.ends.inside k v hk h n l in
-      let to : get_or link x 0 % 1024 ≡ u = cc (to_node owner k v h (end_in link) n l, e) in
+      let near : get_or hall.plan.link x 0 % 1024 < 16 = T.ends.inside k v hk h n l in
+      let to : get_or hall.plan.link x 0 % 1024 ≡ u = cc (to_node owner k v h (end_in hall.plan.link) n l, e) in
       let way : via (owner_in owner k v) ≡ x = via_named (owner_in owner k v) n in
-      let from : get_or link x 0 / 1024 ≡ v = sym (ap (λ (y : ℕ). get_or link y 0 / 1024) way) ∙ T.starts.here k v hk h n in
-      let has : on label x k ≡ true =
+      let from : get_or hall.plan.link x 0 / 1024 ≡ v = sym (ap (λ (y : ℕ). get_or hall.plan.link y 0 / 1024) way) ∙ T.starts.here k v hk h n in
+      let has : on hall.label x k ≡ true =
       T.agrees.bits x k small hk ∙ ap (λ (y : ℕ). eqb (via (owner_in owner k y)) x) from ∙ eq-eqb (via (owner_in owner k v)) x way in
       let lead-on = L.by x k small hk has (omega arith) near in
       (omega arith, sym (ap₂ (leads_to lead) from to) ∙ lead-on)
 
-  moved : (v u : ℕ) → move (next_in owner k) (end_in link) (at v) ≡ at u → (u < 16) × (leads_to lead v u ≡ true)
+  moved : (v u : ℕ) → move (next_in owner k) (end_in hall.plan.link) (at v) ≡ at u → (u < 16) × (leads_to lead v u ≡ true)
   moved v u e = go (dec_lt v 16)
     where
-      ended : v < 16 → (owner_in owner k v ≡ 0 → ⊥) → Dec (end_in link (owner_in owner k v / 512 % 64) < 256) → (u < 16) × (leads_to lead v u ≡ true)
+      ended : v < 16 → (owner_in owner k v ≡ 0 → ⊥) → Dec (end_in hall.plan.link (owner_in owner k v / 512 % 64) < 256) → (u < 16) × (leads_to lead v u ≡ true)
       ended h n (yes l) = by_link v u e h n l
-      ended h n (no l) = absurd (to_end owner k v h (end_in link) n (omega arith) u e)
+      ended h n (no l) = absurd (to_end owner k v h (end_in hall.plan.link) n (omega arith) u e)
 
       owned : v < 16 → Dec (owner_in owner k v ≡ 0) → (u < 16) × (leads_to lead v u ≡ true)
-      owned h (yes q) = absurd (no_owner owner k v h (end_in link) q u e)
-      owned h (no n) = ended h n (dec_lt (end_in link (owner_in owner k v / 512 % 64)) 256)
+      owned h (yes q) = absurd (no_owner owner k v h (end_in hall.plan.link) q u e)
+      owned h (no n) = ended h n (dec_lt (end_in hall.plan.link (owner_in owner k v / 512 % 64)) 256)
 
       go : Dec (v < 16) → (u < 16) × (leads_to lead v u ≡ true)
       go (yes h) = owned h (ℕ_discrete (owner_in owner k v) 0)
-      go (no h) = absurd (past owner (end_in link) k v u (omega arith) e)
+      go (no h) = absurd (past owner (end_in hall.plan.link) k v u (omega arith) e)
 
   -- it goes from one of 16 nodes
-  from_node : (v u : ℕ) → move (next_in owner k) (end_in link) (at v) ≡ at u → v < 16
-  from_node v u e = ⊎_elim (λ (h : 16 ≤ v). absurd (past owner (end_in link) k v u h e)) (λ (h : v < 16). h) (le_or_lt 16 v)
+  from_node : (v u : ℕ) → move (next_in owner k) (end_in hall.plan.link) (at v) ≡ at u → v < 16
+  from_node v u e = ⊎_elim (λ (h : 16 ≤ v). absurd (past owner (end_in hall.plan.link) k v u h e)) (λ (h : v < 16). h) (le_or_lt 16 v)
 
   -- so a node on a circle leads to a node on a circle, and is led to by one
-  circular : (n : ℕ) → Circular lead (on_circle (next_in owner k) (end_in link) n)
+  circular : (n : ℕ) → Circular lead (on_circle (next_in owner k) (end_in hall.plan.link) n)
   unfolding on_circle after
   circular n = record { small = λ v e. first v (turns v e); on = λ v e. next v (turns v e); back = λ v e. last v (turns v e) }
     where
       Turns : ℕ → Type 0
-      Turns v = (i : ℕ) × (i < n) × (stands_at v (after (next_in owner k) (end_in link) (suc i) (at v)) ≡ true)
+      Turns v = (i : ℕ) × (i < n) × (stands_at v (after (next_in owner k) (end_in hall.plan.link) (suc i) (at v)) ≡ true)
 
-      turns : (v : ℕ) → on_circle (next_in owner k) (end_in link) n v ≡ true → Turns v
-      turns v = any_some (λ i. stands_at v (after (next_in owner k) (end_in link) (suc i) (at v))) n
+      turns : (v : ℕ) → on_circle (next_in owner k) (end_in hall.plan.link) n v ≡ true → Turns v
+      turns v = any_some (λ i. stands_at v (after (next_in owner k) (end_in hall.plan.link) (suc i) (at v))) n
 
       -- what the circle passes lies on it
-      passed : (v : ℕ) → (r : Turns v) → (i u : ℕ) → after (next_in owner k) (end_in link) i (at v) ≡ at u → on_circle (next_in owner k) (end_in link) n u ≡ true
+      passed : (v : ℕ) → (r : Turns v) → (i u : ℕ) → after (next_in owner k) (end_in hall.plan.link) i (at v) ≡ at u → on_circle (next_in owner k) (end_in hall.plan.link) n u ≡ true
       passed v r i u e =
-          any_true (λ i. stands_at u (after (next_in owner k) (end_in link) (suc i) (at u))) n r.0 r.1
-          (at_stands u _ (round_again (next_in owner k) (end_in link) v (suc r.0) i u (stands_at_lem v _ r.2) e))
+          any_true (λ i. stands_at u (after (next_in owner k) (end_in hall.plan.link) (suc i) (at u))) n r.0 r.1
+          (at_stands u _ (round_again (next_in owner k) (end_in hall.plan.link) v (suc r.0) i u (stands_at_lem v _ r.2) e))
 
       first : (v : ℕ) → Turns v → v < 16
       first v r =
-          let step = going_le (next_in owner k) (end_in link) (at v) 1 (suc r.0) (omega arith) (v, stands_at_lem v _ r.2) in
+          let step = going_le (next_in owner k) (end_in hall.plan.link) (at v) 1 (suc r.0) (omega arith) (v, stands_at_lem v _ r.2) in
           from_node v step.0 step.1
 
-      next : (v : ℕ) → Turns v → (u : ℕ) × (on_circle (next_in owner k) (end_in link) n u ≡ true) × (leads_to lead v u ≡ true)
+      next : (v : ℕ) → Turns v → (u : ℕ) × (on_circle (next_in owner k) (end_in hall.plan.link) n u ≡ true) × (leads_to lead v u ≡ true)
       next v r =
-          let step = going_le (next_in owner k) (end_in link) (at v) 1 (suc r.0) (omega arith) (v, stands_at_lem v _ r.2) in
+          let step = going_le (next_in owner k) (end_in hall.plan.link) (at v) 1 (suc r.0) (omega arith) (v, stands_at_lem v _ r.2) in
           (step.0, passed v r 1 step.0 step.1, (moved v step.0 step.1).1)
 
-      last : (v : ℕ) → Turns v → (u : ℕ) × (on_circle (next_in owner k) (end_in link) n u ≡ true) × (leads_to lead u v ≡ true)
+      last : (v : ℕ) → Turns v → (u : ℕ) × (on_circle (next_in owner k) (end_in hall.plan.link) n u ≡ true) × (leads_to lead u v ≡ true)
       last v r =
-          let step = going_le (next_in owner k) (end_in link) (at v) r.0 (suc r.0) (omega arith) (v, stands_at_lem v _ r.2) in
+          let step = going_le (next_in owner k) (end_in hall.plan.link) (at v) r.0 (suc r.0) (omega arith) (v, stands_at_lem v _ r.2) in
           let u : ℕ = step.0 in
-          let e = sym (ap (move (next_in owner k) (end_in link)) step.1) ∙ sym (after_suc (next_in owner k) (end_in link) r.0 (at v)) ∙ stands_at_lem v _ r.2 in
+          let e = sym (ap (move (next_in owner k) (end_in hall.plan.link)) step.1) ∙ sym (after_suc (next_in owner k) (end_in hall.plan.link) r.0 (at v)) ∙ stands_at_lem v _ r.2 in
           (u, passed v r r.0 u step.1, (moved u v e).1)
 
-  pub off_of : (n off : ℕ) → OffLeads lead off → Off (next_in owner k) (end_in link) n off
-  off_of n off O = record { none_on = O.none_in (on_circle (next_in owner k) (end_in link) n) (circular n) }
+  pub off_of : (n off : ℕ) → OffLeads lead off → Off (next_in owner k) (end_in hall.plan.link) n off
+  off_of n off O = record { none_on = O.none_in (on_circle (next_in owner k) (end_in hall.plan.link) n) (circular n) }
 
-  pub comes_of : (w to : ℕ) → TowardLeads lead w to → ComesBy (next_in owner k) (end_in link) w to
+  pub comes_of : (w to : ℕ) → TowardLeads lead w to → ComesBy (next_in owner k) (end_in hall.plan.link) w to
   unfolding after
   comes_of w to F = record { from = λ x h r. go r.0 x h r.1 }
     where
-      go : (i x : ℕ) → x < 16 → after (next_in owner k) (end_in link) i (at x) ≡ at w → among to x ≡ true
+      go : (i x : ℕ) → x < 16 → after (next_in owner k) (end_in hall.plan.link) i (at x) ≡ at w → among to x ≡ true
       go zero x h e = let q : x ≡ w = cc in rw q (F.start (omega arith))
       go (suc i) x h e =
-          let step = going_le (next_in owner k) (end_in link) (at x) 1 (suc i) (omega arith) (w, e) in
+          let step = going_le (next_in owner k) (end_in hall.plan.link) (at x) 1 (suc i) (omega arith) (w, e) in
           let m = moved x step.0 step.1 in
-          F.back x step.0 h m.1 (go i step.0 m.0 (sym (ap (after (next_in owner k) (end_in link) i) step.1) ∙ e))
+          F.back x step.0 h m.1 (go i step.0 m.0 (sym (ap (after (next_in owner k) (end_in hall.plan.link) i) step.1) ∙ e))
 
-pub off_walks : (link label lead : List ℕ) (off : ℕ) → Leads link label 64 lead → OffLeads lead off → OffWalks link label off
-off_walks link label lead off L O = record { each = λ owner T n k hk. off_of link label lead owner L T k hk n off O }
+pub off_walks : (hall : Hall) (lead : List ℕ) (off : ℕ) → Leads hall 64 lead → OffLeads lead off → OffWalks hall off
+off_walks hall lead off L O = record { each = λ owner T n k hk. off_of hall lead owner L T k hk n off O }
 
-pub toward_walks : (link label lead : List ℕ) (w to : ℕ) → Leads link label 64 lead → TowardLeads lead w to → TowardWalks link label w to
-toward_walks link label lead w to L F = record { each = λ owner T k hk. comes_of link label lead owner L T k hk w to F }
+pub toward_walks : (hall : Hall) (lead : List ℕ) (w to : ℕ) → Leads hall 64 lead → TowardLeads lead w to → TowardWalks hall w to
+toward_walks hall lead w to L F = record { each = λ owner T k hk. comes_of hall lead owner L T k hk w to F }
 
 -- a walk that stands at a node of which no walk comes to w, and stood at other nodes than w before, does not come to w
 pub strayed : (next : ℕ → Option ℕ) (end : ℕ → ℕ) (v w i u to : ℕ) → after next end i (at v) ≡ at u → NotYet next end v w i
@@ -313,16 +261,15 @@ strayed next end v w i u to here before C h e n = go (comes_to next end n v w) r
 -- ---- the answers
 
 -- where no node lies on a circle of leads, there is no loop
-pub no_loop : (m : State) (label owner : List ℕ) → Whole m label owner → (off : ℕ) → OffWalks m.plan.link label off → off ≡ 65535 → by_address m loop ≡ NoLoop
-no_loop m label owner W off O e =
-    loop_none m label owner W (λ p h u l.
-    (O.each owner (together m label owner W) m.plan.nodes (get_or m.atoms.number p 0) (small_atom m label owner W p h)).none_on u
+pub no_loop : {hall : Hall} → WholeBy hall → (off : ℕ) → OffWalks hall off → off ≡ 65535 → by_address (state_of hall) loop ≡ NoLoop
+no_loop {hall} W off O e =
+    loop_none _ _ _ W (λ p h u l.
+    (O.each hall.owner (together W) hall.plan.nodes (get_or hall.atoms.number p 0) (small_atom _ _ _ W p h)).none_on u
     (rw e (in_all u (omega (arith, W.sound.laid.small)))))
 
 -- where no leads go from v to w, no walk does
-pub no_reach : (m : State) (label owner : List ℕ) → Whole m label owner → (v w to : ℕ) → TowardWalks m.plan.link label w to → v < 16 → bit to v ≡ 0
-    → by_address m (reach v w) ≡ No
+pub no_reach : {hall : Hall} → WholeBy hall → (v w to : ℕ) → TowardWalks hall w to → v < 16 → bit to v ≡ 0 → by_address (state_of hall) (reach v w) ≡ No
 unfolding after
-no_reach m label owner W v w to F h e =
-    reach_none m label owner W v w (λ q l.
-    strayed _ _ v w 0 v to refl (λ k b. absurd (omega arith)) (F.each owner (together m label owner W) (get_or m.atoms.number q 0) (small_atom m label owner W q l)) h e m.plan.nodes)
+no_reach {hall} W v w to F h e =
+    reach_none _ _ _ W v w (λ q l.
+    strayed _ _ v w 0 v to refl (λ k b. absurd (omega arith)) (F.each hall.owner (together W) (get_or hall.atoms.number q 0) (small_atom _ _ _ W q l)) h e hall.plan.nodes)

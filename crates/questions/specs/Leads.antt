@@ -1,5 +1,6 @@
 -- Which node leads to which by a link that has an atom, and what that shows of the walks of all atoms. Assumes nothing: these are definitions.
 use Rattle.std.specs.Prelude.{◌≡◌, Bool, true, false, List, ℕ, ◌/◌, ◌%◌, ◌<◌, get_or}
+use Rattle.meaning.specs.declared.hall.Hall.{Hall}
 use Rattle.meaning.specs.Labels.{on}
 use Rattle.lent.specs.Owners.{next_in, end_in, Agrees, Starts, Ends}
 use Rattle.lent.specs.Nodes.{among, Off}
@@ -16,14 +17,21 @@ abbrev pub leads_to : List ℕ → ℕ → ℕ → Bool
 leads_to lead v u = among (get_or lead v 0) u
 
 -- each link below n that has an atom, and goes from one of 16 nodes to one of 16: there the one leads to the other
-pub record Leads (link label : List ℕ) (n : ℕ) (lead : List ℕ) : Type 0 where
-  pub by : (l k : ℕ) → l < n → k < 512 → on label l k ≡ true → get_or link l 0 / 1024 < 16 → get_or link l 0 % 1024 < 16
-      → leads_to lead (get_or link l 0 / 1024) (get_or link l 0 % 1024) ≡ true
+pub record Leads (hall : Hall) (n : ℕ) (lead : List ℕ) : Type 0 where
+  pub by : (l k : ℕ) → l < n → k < 512 → on hall.label l k ≡ true → get_or hall.plan.link l 0 / 1024 < 16 → get_or hall.plan.link l 0 % 1024 < 16
+      → leads_to lead (get_or hall.plan.link l 0 / 1024) (get_or hall.plan.link l 0 % 1024) ≡ true
 
 -- node v leads to node u from now on, and what led before leads still
 pub record LetLead (before after : List ℕ) (v u : ℕ) : Type 0 where
   pub kept : (x y : ℕ) → leads_to before x y ≡ true → leads_to after x y ≡ true
   pub new : leads_to after v u ≡ true
+
+-- ---- sets that grow
+
+-- from a set of nodes to another by steps of R
+pub data Grown (R : ℕ → ℕ → Type 0) (start : ℕ) : ℕ → Type 0 where
+  started : Grown R start start
+  grew : (x y : ℕ) → Grown R start x → R x y → Grown R start y
 
 -- ---- circles of leads
 
@@ -62,9 +70,9 @@ pub record Together (link label owner : List ℕ) : Type 0 where
   pub ends : Ends link owner
 
 -- no node of `off` lies on a circle of any atom
-pub record OffWalks (link label : List ℕ) (off : ℕ) : Type 0 where
-  pub each : (owner : List ℕ) → Together link label owner → (n k : ℕ) → k < 512 → Off (next_in owner k) (end_in link) n off
+pub record OffWalks (hall : Hall) (off : ℕ) : Type 0 where
+  pub each : (owner : List ℕ) → Together hall.plan.link hall.label owner → (n k : ℕ) → k < 512 → Off (next_in owner k) (end_in hall.plan.link) n off
 
 -- `to` has each node from which the walk of any atom comes to w
-pub record TowardWalks (link label : List ℕ) (w to : ℕ) : Type 0 where
-  pub each : (owner : List ℕ) → Together link label owner → (k : ℕ) → k < 512 → ComesBy (next_in owner k) (end_in link) w to
+pub record TowardWalks (hall : Hall) (w to : ℕ) : Type 0 where
+  pub each : (owner : List ℕ) → Together hall.plan.link hall.label owner → (k : ℕ) → k < 512 → ComesBy (next_in owner k) (end_in hall.plan.link) w to

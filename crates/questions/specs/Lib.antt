@@ -1,5 +1,5 @@
 -- What the inner functions find out. Each is used in contracts between the crate's own functions only.
--- what answers about one move and about one node mean
+-- where a packet stands, and what answers about one move and about one node mean
 pub mod Moves
 -- which node leads to which by a link that has an atom
 pub mod Leads

@@ -1,61 +1,52 @@
 // The walk of a packet to one atom: at a node it takes the owner's link, and at the link's end it stands at the node, or has ended.
-ghost use Rattle.std.specs.Prelude.{false, ◌≡◌, ◌+◌, ◌-◌, ◌<◌, ◌≤◌};
+ghost use Rattle.std.specs.Prelude.{◌≡◌, ◌+◌, ◌-◌, ◌<◌};
 ghost use Rattle.meaning.specs.Walk.{at, move, arrive, told, fate_in, comes_to};
-ghost use Rattle.lent.specs.Owners.{owner_in, next_in, end_in, Ends};
-ghost use Rattle.lent.specs.Nodes.{among, Off};
-ghost use Rattle.questions.specs.Moves.{IsLed, IsSeen, Below, ComesBy};
+ghost use Rattle.lent.specs.Owners.{owner_in, next_in, end_in};
+ghost use Rattle.lent.specs.Nodes.{Off};
+ghost use Rattle.questions.specs.Moves.{Stands, IsNext, IsLed, IsFirstOn, IsSeen, ComesBy};
 
-use meaning::Fate;
+use crate::lead::Nodes;
+use meaning::{Fate, Hall};
 use tables::Atom;
 
-// Where one move leads: to a node, or to an end.
-#[derive(Clone, Copy)]
-pub enum Led {
-    To(u8),
-    Ended,
-}
-
-// The owner of an atom at node v.
-fn owner_at(owner: &[u16; 8192], atom: Atom, v: u8) -> u16
-    requires { (atom.0 < 512) × (v < 16) }
-    ensures { result ≡ owner_in owner.now atom.0 v }
+// The link that a packet to an atom takes at node v; None where the atom has no owner there.
+fn next_link(hall: &Hall, atom: Atom, v: u8) -> Option<u8>
+    requires { Stands hall.now atom.0 v }
+    ensures { IsNext (owner_in hall.now.owner atom.0 v) result }
 {
-    owner[16 * atom.0 as usize + v as usize]
+    let e = hall.owner[16 * atom.0 as usize + v as usize];
+    if e == 0 {
+        None
+    } else {
+        Some((e / 512 % 64) as u8)
+    }
 }
 
+// No loop: `stand` and `travel` call each other, with moves left falling, as docs/TRACE.md says.
 // The packet stands at node v after some hops, with `left` moves more until it is round.
 #[cycle(stand_travel)]
-fn stand(link: &[u16; 64], owner: &[u16; 8192], atom: Atom, v: u8, hops: u8, left: u8) -> Fate
-    requires { (atom.0 < 512) × (v < 16) × (hops + left < 256) × Ends link.now owner.now }
-    ensures { result ≡ fate_in (next_in owner.now atom.0) (end_in link.now) left hops v }
+fn stand(hall: &Hall, atom: Atom, v: u8, hops: u8, left: u8) -> Fate
+    requires { Stands hall.now atom.0 v × (hops + left < 256) }
+    ensures { result ≡ fate_in (next_in hall.now.owner atom.0) (end_in hall.now.plan.link) left hops v }
 {
     if left == 0 {
         return Fate::Round;
     }
-    let e = owner_at(owner, atom, v);
-    if e == 0 {
+    let Some(l) = next_link(hall, atom, v) else {
         return Fate::Lost(v, hops);
-    }
-    travel(link, owner, atom, v, (e / 512 % 64) as u8, hops, left)
+    };
+    travel(hall, atom, v, l, hops, left)
 }
 
 // The packet travels on link l from node v.
 #[cycle(stand_travel)]
-fn travel(
-    link: &[u16; 64],
-    owner: &[u16; 8192],
-    atom: Atom,
-    v: u8,
-    l: u8,
-    hops: u8,
-    left: u8,
-) -> Fate
-    requires { (atom.0 < 512) × (l < 64) × (0 < left) × (hops + left < 256) × (end_in link.now l < 256 → end_in link.now l < 16) × Ends link.now owner.now }
-    ensures { result ≡ told (fate_in (next_in owner.now atom.0) (end_in link.now) (left - 1) (hops + 1)) hops (arrive v l (end_in link.now l)) }
+fn travel(hall: &Hall, atom: Atom, v: u8, l: u8, hops: u8, left: u8) -> Fate
+    requires { Stands hall.now atom.0 v × (l < 64) × (0 < left) × (hops + left < 256) }
+    ensures { result ≡ told (fate_in (next_in hall.now.owner atom.0) (end_in hall.now.plan.link) (left - 1) (hops + 1)) hops (arrive v l (end_in hall.now.plan.link l)) }
 {
-    let e = link[l as usize] % 1024;
+    let e = hall.plan.link[l as usize] % 1024;
     if e < 256 {
-        stand(link, owner, atom, e as u8, hops + 1, left - 1)
+        stand(hall, atom, e as u8, hops + 1, left - 1)
     } else if e < 512 {
         Fate::Out(l, hops)
     } else {
@@ -63,108 +54,74 @@ fn travel(
     }
 }
 
-// What becomes of a packet to an atom that stands at node v of a hall of n nodes.
-pub fn follow(link: &[u16; 64], owner: &[u16; 8192], atom: Atom, n: u8, v: u8) -> Fate
-    requires { (atom.0 < 512) × (v < 16) × (n ≤ 16) × Ends link.now owner.now }
-    ensures { result ≡ fate_in (next_in owner.now atom.0) (end_in link.now) n 0 v }
+// What becomes of a packet to an atom that stands at node v of a hall.
+pub fn follow(hall: &Hall, atom: Atom, v: u8) -> Fate
+    requires { Stands hall.now atom.0 v }
+    ensures { result ≡ fate_in (next_in hall.now.owner atom.0) (end_in hall.now.plan.link) hall.now.plan.nodes 0 v }
 {
-    stand(link, owner, atom, v, 0, n)
+    stand(hall, atom, v, 0, hall.plan.nodes)
 }
 
-// Where one move from node v leads.
-fn move_from(link: &[u16; 64], owner: &[u16; 8192], atom: Atom, v: u8) -> Led
-    requires { (atom.0 < 512) × (v < 16) × Ends link.now owner.now }
-    ensures { IsLed result (move (next_in owner.now atom.0) (end_in link.now) (at v)) }
+// The node to which one move from node v leads; None where it leads to an end.
+fn move_from(hall: &Hall, atom: Atom, v: u8) -> Option<u8>
+    requires { Stands hall.now atom.0 v }
+    ensures { IsLed result (move (next_in hall.now.owner atom.0) (end_in hall.now.plan.link) (at v)) }
 {
-    let e = owner_at(owner, atom, v);
-    if e == 0 {
-        return Led::Ended;
-    }
-    let l = (e / 512 % 64) as usize;
-    let end = link[l] % 1024;
-    if end < 256 {
-        return Led::To(end as u8);
-    }
-    Led::Ended
+    let l = next_link(hall, atom, v)?;
+    u8::try_from(hall.plan.link[l as usize] % 1024).ok()
 }
 
-// What a look at a node shows: that it lies on a circle, or the nodes that are seen to lie on none, a bit for each.
-#[derive(Clone, Copy)]
-pub enum Seen {
-    Circle,
-    Off(u16),
-}
-
-// The lowest node that is none of `off`, or 16 for none.
-pub fn first_on(off: u16) -> u8
-    ensures { (result ≤ 16) × Below off result × (result < 16 → among off result ≡ false) }
+// The lowest of n nodes that is none of `off`.
+pub fn first_on(off: Nodes, n: u8) -> Option<u8>
+    ensures { IsFirstOn off n result }
 {
-    u32::trailing_zeros(!(off as u32)) as u8
+    let v = off.trailing_ones() as u8;
+    (v < n).then_some(v)
 }
 
-// Whether node v lies on a circle of an atom. Where its walk ends, or comes to a node of `off`, the nodes passed lie on none and join
-// `off`: so no node is walked from again that is seen to end. Where it goes round elsewhere, v alone joins.
-pub fn look(link: &[u16; 64], owner: &[u16; 8192], atom: Atom, n: u8, v: u8, off: u16) -> Seen
-    requires { (atom.0 < 512) × (v < 16) × (n ≤ 16) × Ends link.now owner.now × Off (next_in owner.now atom.0) (end_in link.now) n off }
-    ensures { IsSeen (next_in owner.now atom.0) (end_in link.now) n v off result }
+// Looks whether node v lies on a circle of an atom: None where it does, and else the nodes that are seen to lie on none. Where its walk
+// ends, or comes to a node of `off`, the nodes passed lie on none and join `off`: so no node is walked from again that is seen to end.
+// Where it goes round elsewhere, v alone joins.
+pub fn look(hall: &Hall, atom: Atom, v: u8, off: Nodes) -> Option<Nodes>
+    requires { Stands hall.now atom.0 v × Off (next_in hall.now.owner atom.0) (end_in hall.now.plan.link) hall.now.plan.nodes off }
+    ensures { IsSeen (next_in hall.now.owner atom.0) (end_in hall.now.plan.link) hall.now.plan.nodes v off result }
 {
     let mut here = v;
     let mut passed = off;
-    let mut i: u8 = 0;
-    while i < n {
-        passed |= 1u16 << here;
-        match move_from(link, owner, atom, here) {
-            Led::To(w) => {
-                if w == v {
-                    return Seen::Circle;
-                }
-                if (off >> w) % 2 == 1 {
-                    return Seen::Off(passed);
-                }
-                here = w;
-            }
-            Led::Ended => {
-                return Seen::Off(passed);
-            }
+    for _ in 0..hall.plan.nodes {
+        passed |= 1 << here;
+        let Some(w) = move_from(hall, atom, here) else {
+            return Some(passed);
+        };
+        if w == v {
+            return None;
         }
-        i += 1;
+        if (off >> w) % 2 == 1 {
+            return Some(passed);
+        }
+        here = w;
     }
-    let more = off | 1u16 << v;
-    Seen::Off(more)
+    Some(off | 1 << v)
 }
 
 // Whether the walk to an atom from node v stands at node w at some time, the start counted. Where the walk comes to a node that is none
 // of `to`, it comes to w no more.
-pub fn comes_to(
-    link: &[u16; 64],
-    owner: &[u16; 8192],
-    atom: Atom,
-    n: u8,
-    v: u8,
-    w: u8,
-    to: u16,
-) -> bool
-    requires { (atom.0 < 512) × (v < 16) × (n ≤ 16) × Ends link.now owner.now × ComesBy (next_in owner.now atom.0) (end_in link.now) w to }
-    ensures { result ≡ comes_to (next_in owner.now atom.0) (end_in link.now) n v w }
+pub fn comes_to(hall: &Hall, atom: Atom, v: u8, w: u8, to: Nodes) -> bool
+    requires { Stands hall.now atom.0 v × ComesBy (next_in hall.now.owner atom.0) (end_in hall.now.plan.link) w to }
+    ensures { result ≡ comes_to (next_in hall.now.owner atom.0) (end_in hall.now.plan.link) hall.now.plan.nodes v w }
 {
     let mut here = v;
-    let mut i: u8 = 0;
-    while i < n {
+    for _ in 0..hall.plan.nodes {
         if here == w {
             return true;
         }
         if (to >> here) % 2 == 0 {
             return false;
         }
-        match move_from(link, owner, atom, here) {
-            Led::To(u) => {
-                here = u;
-            }
-            Led::Ended => {
-                return false;
-            }
-        }
-        i += 1;
+        let Some(u) = move_from(hall, atom, here) else {
+            return false;
+        };
+        here = u;
     }
     false
 }

@@ -4,7 +4,7 @@ use mathlib.Core.Path.{◌≡◌, sym, ap, ◌∙◌}
 use mathlib.Core.List.{List}
 use Prim.Native.Nat.{ℕ}
 use denote.Ref.{Bor}
-use Rattle.meaning.specs.declared.Read.{Read}
+use Rattle.meaning.specs.Records.{Read}
 use Rattle.meaning.proofs.records.Said.{read_once}
 use Rattle.records.specs.declared.reader.Reader.{Reader}
 use Rattle.records.specs.Readers.{Next, next, next_of}

@@ -1,7 +1,6 @@
 -- What a reader returns and leaves when it reads on. Assumes nothing: these are definitions.
 use Rattle.meaning.specs.Answers.{SaidRead, said_read}
-use Rattle.meaning.specs.Records.{placed_at}
-use Rattle.meaning.specs.declared.Read.{Read}
+use Rattle.meaning.specs.Records.{Read, placed_at}
 use Rattle.records.specs.declared.reader.Reader.{Reader}
 
 -- what was read, and the reader: its stream and its place

@@ -4,6 +4,7 @@ ghost use Rattle.meaning.specs.Records.{read_of, placed_at};
 ghost use Rattle.meaning.specs.Answers.{said_read, said_placed};
 ghost use Rattle.records.specs.Readers.{next, next_of};
 
+use crate::record::read_record;
 use meaning::{Placed, Read};
 
 // The caller's stream and a place in it.
@@ -17,10 +18,10 @@ pub struct Reader<'a> {
 pub fn read_at(bytes: &[u8], at: usize) -> Read
     ensures { said_read result ≡ said_read (read_of (drop at bytes.now)) }
 {
-    if bytes.len() < at {
-        return Read::End;
+    match bytes.get(at..) {
+        Some(rest) => read_record(rest),
+        None => Ok(None),
     }
-    crate::record::read_record(&bytes[at..])
 }
 
 // What is read at a place, and the place after it: behind a record; at the end and at a refusal the place stays.
@@ -29,9 +30,9 @@ fn take_at(bytes: &[u8], at: usize) -> Placed
 {
     let read = read_at(bytes, at);
     let passed = match read {
-        Read::Got(_, n) => n,
-        Read::Refused(_) => 0,
-        Read::End => 0,
+        Ok(Some((_, n))) => n,
+        Ok(None) => 0,
+        Err(_) => 0,
     };
     Placed {
         read,

@@ -1,5 +1,5 @@
--- Laws of clearing and of a run, which the proofs of this crate cite.
--- clearing a table entry by entry
-mod Clears
--- what is left to run, over the rest of the bytes, is the run
-mod Running
+-- Laws of this crate, by subject.
+-- tables of zeros are those of a fresh hall
+pub mod Fresh
+-- a run step by step
+pub mod Running

@@ -1,94 +1,78 @@
-// A fresh box, and a run over a whole stream.
+// A fresh hall, and a run over a whole stream.
 #![tactic(auto)]
 
-ghost use Rattle.std.specs.Prelude.{◌≡◌, ℕ, ◌+◌, ◌<◌, ◌≤◌, length};
-ghost use Rattle.meaning.specs.Hall.{zeroes, fresh};
+ghost use Rattle.std.specs.Prelude.{◌≡◌, length};
+ghost use Rattle.meaning.specs.Hall.{fresh};
 ghost use Rattle.meaning.specs.Labels.{labels_of};
 ghost use Rattle.meaning.specs.Working.{owners_of};
-ghost use Rattle.meaning.specs.Box.{state_of, left, ran_of};
+ghost use Rattle.meaning.specs.Box.{state_of, left_in, ran_of};
 
-use meaning::{Answer, Hall, Ran};
+use meaning::{Answer, Atoms, Hall, Phase, Plan, Ran};
 
-// Makes all words 0.
-fn clear_words(words: &mut [u64])
-    ensures { words.new ≡ zeroes (length words.old) }
+// The end of the address range: the upper end of the last atom.
+const TOP: u64 = 1 << 32;
+
+// A fresh hall.
+pub fn new_box() -> Hall
+    ensures state { state_of result ≡ fresh }
+    ensures labels { result.label ≡ labels_of fresh }
+    ensures owners { result.owner ≡ owners_of fresh }
 {
-    let mut i: usize = 0;
-    while i < words.len() {
-        words[i] = 0;
-        i += 1;
-    }
+    let mut hall = Hall {
+        plan: Plan {
+            phase: Phase::Bare,
+            nodes: 0,
+            links: 0,
+            link: [0; 64],
+        },
+        rule: [0; 256],
+        atoms: Atoms {
+            count: 1,
+            cut: [0; 513],
+            number: [0; 512],
+        },
+        label: [0; 512],
+        owner: [0; 8192],
+    };
+    hall.atoms.cut[1] = TOP;
+    hall
 }
 
-// The same of halves of words.
-fn clear_halves(halves: &mut [u16])
-    ensures { halves.new ≡ zeroes (length halves.old) }
+// Makes the lent hall a fresh one, whatever it held.
+pub fn clear_box(hall: &mut Hall)
+    ensures state { state_of hall.new ≡ fresh }
+    ensures labels { hall.new.label ≡ labels_of fresh }
+    ensures owners { hall.new.owner ≡ owners_of fresh }
 {
-    let mut i: usize = 0;
-    while i < halves.len() {
-        halves[i] = 0;
-        i += 1;
-    }
+    hall.plan.phase = Phase::Bare;
+    hall.plan.nodes = 0;
+    hall.plan.links = 0;
+    hall.plan.link.fill(0);
+    hall.rule.fill(0);
+    hall.atoms.count = 1;
+    hall.atoms.cut.fill(0);
+    hall.atoms.cut[1] = TOP;
+    hall.atoms.number.fill(0);
+    hall.label.fill(0);
+    hall.owner.fill(0);
 }
 
-// Makes the lent tables those of a fresh box, whatever they held.
-pub fn clear_box(
-    link: &mut [u16; 64],
-    rule: &mut [u64; 256],
-    cut: &mut [u64; 513],
-    number: &mut [u16; 512],
-    label: &mut [u64; 512],
-    owner: &mut [u16; 8192],
-) -> Hall
-    ensures { (state_of result link.new rule.new cut.new number.new ≡ fresh)
-        × (label.new ≡ labels_of fresh) × (owner.new ≡ owners_of fresh) }
+// Runs over a whole stream from a fresh hall, until the end or a record that is not gone past.
+pub fn run_stream(bytes: &[u8], hall: &mut Hall, list: &mut [u64]) -> Ran
+    ensures { left_in result.stopped result.past hall.new list.new ≡ ran_of list.old bytes.now }
 {
-    clear_halves(link);
-    clear_words(rule);
-    clear_words(cut);
-    cut[1] = 4294967296;
-    clear_halves(number);
-    clear_words(label);
-    clear_halves(owner);
-    Hall {
-        phase: 0,
-        nodes: 0,
-        links: 0,
-        atoms: 1,
-    }
-}
-
-// Runs over a whole stream from a fresh box, until the end or a record that is not gone past.
-pub fn run_stream(
-    bytes: &[u8],
-    link: &mut [u16; 64],
-    rule: &mut [u64; 256],
-    cut: &mut [u64; 513],
-    number: &mut [u16; 512],
-    label: &mut [u64; 512],
-    owner: &mut [u16; 8192],
-    list: &mut [u64],
-) -> Ran
-    ensures { left result.stopped result.past (state_of result.hall link.new rule.new cut.new number.new) label.new owner.new list.new
-        ≡ ran_of list.old bytes.now }
-{
-    let mut h = clear_box(link, rule, cut, number, label, owner);
-    let mut at: usize = 0;
-    let mut past: usize = 0;
+    clear_box(hall);
+    let mut at = 0;
+    let mut past = 0;
     loop {
-        let rest = &bytes[at..];
-        let s = hall::take_record(rest, h, link, rule, cut, number, label, owner, list);
-        let hall = s.hall;
-        if s.passed == 0 {
-            let stopped = s.answer;
+        let step = hall::take_record(&bytes[at..], hall, list);
+        if step.passed == 0 {
             return Ran {
                 past,
-                stopped,
-                hall,
+                stopped: step.answer,
             };
         }
-        h = hall;
-        at += s.passed;
+        at += step.passed;
         past += 1;
     }
 }

@@ -2,25 +2,30 @@
 -- Assumes nothing.
 use mathlib.Core.Path.{◌≡◌, refl, sym, ap, ◌∙◌, subst}
 use mathlib.Core.Logic.{inl, inr, ⊎_elim}
-use mathlib.Core.Bool.{Bool, true, false, ◌&&◌, not, true≢false, and-true, and-false, and_assoc}
-use mathlib.Core.List.{List}
+use mathlib.Core.Bool.{Bool, true, false, ◌||◌, or-false, ◌&&◌, not, true≢false, and-true, and-false, and_assoc}
+use mathlib.Core.List.{List, [], ◌∷◌}
 use mathlib.Core.Option.{none, some}
-use Prim.Native.Nat.{ℕ, zero, suc, ◌+◌, ◌-◌, ◌/◌, ◌%◌, ◌^◌, ◌≤◌, ◌<◌}
+use Prim.Native.Nat.{ℕ, zero, suc, ◌+◌, ◌/◌, ◌^◌, ◌≤◌, ◌<◌}
 use native.Mathlib.Nat.{not-suc-le-zero}
 use native.Mathlib.Decide.{ℕ_discrete}
-use native.Mathlib.Numerals.{add-one}
 use native.Mathlib.Omega.{arith}
-use lib.Bits.{bit_and, bit_xor, and_le_l, and_le_r, and_mask, and_zero_r, xor_shr, xor_mod, xor_self}
+use lib.Bits.{bit_and, and_mask, and_zero_r}
 use lib.Dec.{ltb, eqb}
-use lib.ListN.{length, length-set, get_or, set}
+use lib.ListN.{length, get_or, set}
 use lib.Seq.{get_or-set_same, get_or-set_other}
 use borrow.Author.Count.{below_more}
 use borrow.Author.Tests.{eq-eqb, ne_eqb, lt-ltb, le-ltb, le-leb, lt-leb}
+use Rattle.meaning.specs.declared.Refusal.TheVariants.{Tie, CutsFull}
+use Rattle.std.proofs.Common.{add-one, fold, take}
+use Rattle.std.proofs.Math.Bool.{or_assoc}
+use Rattle.std.proofs.lemmas.List.{take_all, get_or-take, length-take-le}
+use Rattle.std.proofs.lemmas.List.Folds.{list_any_more, list_any_at}
+use Rattle.std.specs.List.{list_any}
 use Rattle.meaning.specs.Records.{insert}
 use Rattle.meaning.specs.Search.{pick, any_below}
 use Rattle.meaning.specs.Step.{ragged, clashes, added, update_refusal}
 use Rattle.meaning.specs.Rule.{rule_word, live, link_of, rank, lower, upper, covers, overlap}
-use Rattle.meaning.specs.Hall.{State, source_of, ipv4}
+use Rattle.meaning.specs.Hall.{State, source_of}
 use Rattle.meaning.specs.Winner.{better, rule_at, eligible, winner}
 use Rattle.meaning.proofs.base.Order.{le_or_lt}
 use Rattle.meaning.proofs.rules.Words.{RuleFits, link_of_lem}
@@ -52,14 +57,6 @@ module _ (width x : ℕ) (h : x < 2 ^ 64) where
   live_marked l here isLink b e = rw (isLink, e, masked b) (live_and b)
 
 module _ (width : ℕ) (link : List ℕ) (v x : ℕ) where
-  pub not_standing : x ≡ 0 → false ≡ standing width link v x
-  unfolding standing live
-  not_standing e = rw e
-
-  pub stands_there : (x ≡ 0 → ⊥) → (s : ℕ) → s ≡ get_or link (link_of width x) 0 / 1024 → eqb s v ≡ standing width link v x
-  unfolding standing live
-  stands_there n s e = rw (ne_eqb x 0 n, e)
-
   pub stands_marked : (r : Bool) (here : List ℕ) → Marks link v here → ((b : Bool) → get_or here (link_of width x) 0 ≡ mask_of b → r ≡ (live x && b))
       → r ≡ standing width link v x
   unfolding standing
@@ -82,15 +79,6 @@ pub covers_below : (width x a l : ℕ) → l ≡ lower width x → a < l → cov
 unfolding covers
 covers_below width x a l e h = rw (lt-leb (lower width x) a (omega arith))
 
-module _ (width x w l u : ℕ) (isLow : l ≡ lower width x) (isHigh : u ≡ upper width w) where
-  pub overlaps_if : (k t : ℕ) → k ≡ lower width w → t ≡ upper width x → l < u → ltb k t ≡ overlap width x w
-  unfolding overlap
-  overlaps_if k t f g h = rw (f, g, lt-ltb (lower width x) (upper width w) (omega arith))
-
-  pub overlaps_not : u ≤ l → false ≡ overlap width x w
-  unfolding overlap
-  overlaps_not h = rw (le-ltb (lower width x) (upper width w) (omega arith))
-
 module _ (width : ℕ) (link : List ℕ) (v w x : ℕ) where
   tying_is : tying width link v w x ≡ (standing width link v x && (eqb (rank width x) (rank width w) && overlap width x w))
   unfolding tying standing
@@ -105,36 +93,28 @@ module _ (width : ℕ) (link : List ℕ) (v w x : ℕ) where
   pub ties_if : (a b : ℕ) → a ≡ rank width x → b ≡ rank width w → a ≡ b → standing width link v x ≡ true → overlap width x w ≡ tying width link v w x
   ties_if a b e f d s = rw (tying_is, s, eq-eqb (rank width x) (rank width w) (sym e ∙ d ∙ f))
 
--- ---- ranks that differ, by the highest bit of a word
+-- ---- whether some word has a rank, and whether one ties
 
-pub same_rank : (x w : ℕ) → rank ipv4 x ≡ rank ipv4 w → bit_xor x w / 2 ^ 44 % 2 ^ 16 ≡ 0
-unfolding rank
-same_rank x w e =
-    let f : x / 2 ^ 44 % 2 ^ 16 ≡ w / 2 ^ 44 % 2 ^ 16 = omega (arith, e) in
-    ap (λ (b : ℕ). b % 2 ^ 16) (xor_shr x w 44)
-    ∙ xor_mod (x / 2 ^ 44) (w / 2 ^ 44) 16
-    ∙ ap (λ (b : ℕ). bit_xor b (w / 2 ^ 44 % 2 ^ 16)) f
-    ∙ xor_self (w / 2 ^ 44 % 2 ^ 16)
+pub folded_any : {X : Type 0} (p : X → Bool) (b : Bool) (xs : List X) → fold (λ c x. c || p x) b xs ≡ b || list_any p xs
+folded_any p b [] = sym (or-false b)
+folded_any p b (x ∷ xs) = folded_any p (b || p x) xs ∙ or_assoc b (p x) (list_any p xs)
 
--- where the highest bit of `all` is set, the ranks of the words below i differ from that of w
-pub record Lacks (width : ℕ) (rule : List ℕ) (w all i : ℕ) : Type 0 where
-  pub other : 2 ^ 63 ≤ all → (k : ℕ) → k < i → rank width (get_or rule k 0) ≡ rank width w → ⊥
+-- the first n of a list, by their indices
+any_first : (p : ℕ → Bool) (xs : List ℕ) (n : ℕ) → n ≤ length xs → list_any p (take n xs) ≡ any_below n (λ i. p (get_or xs i 0))
+unfolding any_below
+any_first p xs zero h = refl
+any_first p xs (suc n) h =
+    ap (λ (k : ℕ). list_any p (take k xs)) (sym (add-one n)) ∙ list_any_more p xs n 0 (omega arith) ∙ ap (λ (b : Bool). b || p (get_or xs n 0)) (any_first p xs n (omega arith))
 
-module _ {width : ℕ} {rule : List ℕ} {w all : ℕ} where
-  pub lacks_none : Lacks width rule w all 0
-  lacks_none = record { other = λ h k l. absurd (not-suc-le-zero l) }
-
-  pub lacks_more : {i gap : ℕ} → Lacks width rule w all i → (rank width (get_or rule i 0) ≡ rank width w → gap ≡ 0) → Lacks width rule w (bit_and all (gap + (2 ^ 63 - 2 ^ 44))) (i + 1)
-  lacks_more {i} {gap} s f = record {
-    other = λ h. below_more (λ k. rank width (get_or rule k 0) ≡ rank width w → ⊥) i
-        (s.other (omega (arith, h, and_le_l all (gap + (2 ^ 63 - 2 ^ 44)))))
-        (λ e. omega (arith, h, f e, and_le_r all (gap + (2 ^ 63 - 2 ^ 44))));
-  }
+pub any_listed : (p : ℕ → Bool) (xs : List ℕ) (n : ℕ) → length xs ≡ n → list_any p xs ≡ any_below n (λ i. p (get_or xs i 0))
+any_listed p xs n e = ap (list_any p) (sym (take_all n xs (omega arith))) ∙ any_first p xs n (omega arith)
 
 -- where no word has the rank of w, none ties with it
-pub ties_nowhere : (width : ℕ) (link rule : List ℕ) (v w : ℕ) → ((i : ℕ) → i < 256 → rank width (get_or rule i 0) ≡ rank width w → ⊥)
+pub ties_nowhere : (width : ℕ) (link rule : List ℕ) (v w : ℕ) → length rule ≡ 256 → list_any (λ x. eqb (rank width x) (rank width w)) rule ≡ false
     → false ≡ any_below 256 (λ i. tying width link v w (get_or rule i 0))
-ties_nowhere width link rule v w f = sym (any_off _ 256 (λ i h. sym (ties_apart width link v w (get_or rule i 0) _ _ refl refl (f i h))))
+ties_nowhere width link rule v w e f =
+    sym (any_off _ 256 (λ i h. sym (ties_apart width link v w (get_or rule i 0) _ _ refl refl (λ d.
+    true≢false (sym (list_any_at (λ x. eqb (rank width x) (rank width w)) rule i 0 (omega arith) (eq-eqb _ _ d)) ∙ f)))))
 
 -- ---- the last checks of an insert
 
@@ -154,7 +134,7 @@ module _ {m : State} {r l p n t v w : ℕ} {tied : Bool} (T : Tried m r l p n t 
   unfolding clashes tying rule_at source_of
   clash = T.ties ∙ rw (T.word, T.source, link_of_lem T.fits)
 
-  pub insert_ties : tied ≡ true → some 12 ≡ update_refusal m (insert r l p n t)
+  pub insert_ties : tied ≡ true → some Tie ≡ update_refusal m (insert r l p n t)
   insert_ties e = sym (rule_clashes m r l p n t T.low T.free T.known T.fits.long T.whole (sym clash ∙ e))
 
   module _ (apart : tied ≡ false) (b c x y : ℕ) (isLow : b ≡ lower m.width w) (isHigh : c ≡ upper m.width w)
@@ -163,32 +143,13 @@ module _ {m : State} {r l p n t v w : ℕ} {tied : Bool} (T : Tried m r l p n t 
     unfolding added
     more_cuts = rw (isX, isY, isLow, isHigh, T.word)
 
-    pub insert_full : 512 < m.atoms.count + (x + y) → some 13 ≡ update_refusal m (insert r l p n t)
+    pub insert_full : 512 < m.atoms.count + (x + y) → some CutsFull ≡ update_refusal m (insert r l p n t)
     insert_full h = sym (cuts_many m r l p n t T.low T.free T.known T.fits.long T.whole (sym clash ∙ apart) (omega (arith, more_cuts)))
 
     pub insert_passes : m.atoms.count + (x + y) ≤ 512 → none ≡ update_refusal m (insert r l p n t)
     insert_passes h = sym (passes m r l p n t T.low T.free T.known T.fits.long T.whole (sym clash ∙ apart) (omega (arith, more_cuts)))
 
 -- ---- gathering
-
--- `Marks` for the links below l
-pub record Marking (link : List ℕ) (v : ℕ) (here : List ℕ) (l : ℕ) : Type 0 where
-  pub whole : length here ≡ 64
-  pub right : (k : ℕ) → k < l → get_or here k 0 ≡ mask_of (eqb (get_or link k 0 / 1024) v)
-
-module _ {link : List ℕ} {v : ℕ} {here : List ℕ} where
-  pub marked_none : length here ≡ 64 → Marking link v here 0
-  marked_none e = record { whole = e; right = λ k h. absurd (not-suc-le-zero h) }
-
-  pub marked_more : {l : ℕ} → Marking link v here l → l < 64 → (x : ℕ) → x ≡ mask_of (eqb (get_or link l 0 / 1024) v) → Marking link v (set here l x) (l + 1)
-  marked_more {l} m h x e = record {
-    whole = simp length-set m.whole;
-    right = below_more (λ k. get_or (set here l x) k 0 ≡ mask_of (eqb (get_or link k 0 / 1024) v)) l
-        (λ k g. get_or-set_other here l k x 0 (λ d. omega arith) ∙ m.right k g) (get_or-set_same here l x 0 (omega (arith, m.whole)) ∙ e);
-  }
-
-  pub marked_all : Marking link v here 64 → Marks link v here
-  marked_all m = record { right = m.right }
 
 module _ {width : ℕ} {link rule : List ℕ} {v w : ℕ} {among : List ℕ} where
   pub gathered_none : Gathering width link rule v w among 0 0
@@ -201,6 +162,22 @@ module _ {width : ℕ} {link rule : List ℕ} {v w : ℕ} {among : List ℕ} whe
 
   pub gathered_to : {count i : ℕ} → Gathering width link rule v w among count i → (k : ℕ) → i ≡ k → Gathering width link rule v w among count k
   gathered_to g k e = subst (Gathering width link rule v w among _) e g
+
+  -- the first count of them alone, once i is the last
+  pub gathered_front : {count i : ℕ} → Gathering width link rule v w among count i → i ≡ 256 → count ≤ length among
+      → Gathers width link rule v w (take count among) (length (take count among))
+  gathered_front {count} {i} g e h = record {
+    few = omega (arith, size, g.few);
+    within = λ j l. omega (arith, size, same j (omega (arith, size)), g.within j (omega (arith, size)));
+    each = λ j l. rw (same j (omega (arith, size))) (g.each j (omega (arith, size)));
+    all = λ k l s o. let b = g.all k (omega arith) s o in (b.0, omega (arith, size, b.1), same b.0 b.1 ∙ b.2);
+  }
+    where
+      size : length (take count among) ≡ count
+      size = length-take-le count among h
+
+      same : (j : ℕ) → j < count → get_or (take count among) j 0 ≡ get_or among j 0
+      same j l = get_or-take count among j 0 l
 
   module _ {count i : ℕ} (g : Gathering width link rule v w among count i) where
     pub gathered_skip : (standing width link v (get_or rule i 0) ≡ true → overlap width (get_or rule i 0) w ≡ true → ⊥) → Gathering width link rule v w among count (i + 1)

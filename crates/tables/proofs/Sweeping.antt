@@ -1,14 +1,14 @@
--- Laws of a sweep: five stores are one entry, and one place settled is one place more swept. Assumes nothing.
+-- Laws of a sweep: with the owner of one place left or changed, one place more is swept. Assumes nothing.
 use mathlib.Core.Path.{◌≡◌, refl, sym, ap, ap₂, ◌∙◌}
 use mathlib.Core.Bool.{Bool, true, false}
 use mathlib.Core.List.{List, [], ◌∷◌, ◌++◌, append-nil}
 use mathlib.Core.Logic.{◌⊎◌, inl, inr}
-use Prim.Native.Nat.{ℕ, suc, ◌+◌, ◌-◌, ◌*◌, ◌/◌, ◌≤◌, ◌<◌}
+use Prim.Native.Nat.{ℕ, zero, suc, ◌+◌, ◌-◌, ◌*◌, ◌/◌, ◌≤◌, ◌<◌}
 use native.Mathlib.Omega.{arith}
 use native.Mathlib.Decide.{ℕ_discrete}
 use lib.Dec.{eqb}
 use lib.ListN.{length, get_or, set, take, drop, length-append, length-set}
-use lib.Seq.{sets-eq, take_at, drop-append-add, drop-drop, get_or-set_same, get_or-set_other}
+use lib.Seq.{take_at, drop-append-add, drop-drop, get_or-set_same, get_or-set_other}
 use borrow.Author.Tests.{eq-eqb, ne_eqb}
 use Rattle.meaning.specs.Search.{pick}
 use Rattle.meaning.specs.Labels.{on}
@@ -18,17 +18,7 @@ use Rattle.meaning.proofs.atoms.Numbers.{one_place}
 use Rattle.lent.specs.Owners.{owner_in, via, Agrees}
 use Rattle.lent.proofs.Labelled.{via_none}
 use Rattle.tables.specs.Bits.{Moved}
-use Rattle.tables.specs.Sweep.{Swept, entries_from, WroteEntries, owner_by, Settled, Ready, SweptAll}
-
--- five stores in a row
-pub wrote : (l : List ℕ) (i a b c d e : ℕ) → i + 5 ≤ length l
-    → set (set (set (set (set l i a) (i + 1) b) (i + 2) c) (i + 3) d) (i + 4) e ≡ take i l ++ (a ∷ b ∷ c ∷ d ∷ e ∷ []) ++ drop (i + 5) l
-wrote l i a b c d e h =
-    let e1 : i + 1 ≡ suc i = omega arith in
-    let e2 : i + 2 ≡ suc (suc i) = omega arith in
-    let e3 : i + 3 ≡ suc (suc (suc i)) = omega arith in
-    let e4 : i + 4 ≡ suc (suc (suc (suc i))) = omega arith in
-    rw (e1, e2, e3, e4) (sets-eq (a ∷ b ∷ c ∷ d ∷ e ∷ []) l i h)
+use Rattle.tables.specs.Sweep.{Swept, entries_from, WroteEntries, owner_by, Ready, SweptAll, SweptBy}
 
 -- ---- one entry of the owners
 
@@ -145,69 +135,117 @@ module _ {g h : ℕ → ℕ} {cut number list list' : List ℕ} {f p k : ℕ} (w
         few = omega (arith, w.few);
       }
 
+-- the entries go by the owners from f on alone
+entries_alike : (g h h' : ℕ → ℕ) (cut number : List ℕ) (f d : ℕ) → ((q : ℕ) → f ≤ q → q < f + d → h' q ≡ h q) → entries_from g h' cut number f d ≡ entries_from g h cut number f d
+unfolding entries_from
+entries_alike g h h' cut number f zero e = refl
+entries_alike g h h' cut number f (suc d) e =
+    rw (entries_alike g h h' cut number f d (λ q a b. e q a (omega arith)), e (f + d) (omega arith) (omega arith))
+
 -- ---- all of it
 
+-- a sweep to the same owners
+swept_alike : {cut number label label' owner owner' list list' : List ℕ} {n v f t k : ℕ} {g h h' : ℕ → ℕ} → ((q : ℕ) → f ≤ q → q < t → h' q ≡ h q)
+    → SweptAll cut number n v f t g h label label' owner owner' list list' k → SweptAll cut number n v f t g h' label label' owner owner' list list' k
+swept_alike {cut} {number} {f = f} {t = t} {g = g} {h = h} {h' = h'} e s =
+    let w : entries_from g h' cut number f (t - f) ≡ entries_from g h cut number f (t - f) = entries_alike g h h' cut number f (t - f) (λ q a b. e q a (omega arith)) in
+    record {
+      owners = record {
+        long = s.owners.long;
+        done = λ q a b. s.owners.done q a b ∙ sym (e q a b);
+        nodes = s.owners.nodes;
+        places = s.owners.places;
+        past = s.owners.past;
+      };
+      labels = λ link agrees starts at. s.labels link agrees starts (λ q a b. rw (e q a b) at (at q a b));
+      words = record { words = rw w s.words.words; count = rw w s.words.count; few = s.words.few };
+    }
+
 -- no place swept
-pub swept_none : {cut number label owner list : List ℕ} {n v f : ℕ} {g h : ℕ → ℕ} → SweptAll cut number n v f f g h label label owner owner list list 0
+pub swept_none : {P : ℕ → ℕ → Type 0} {cut number label owner list : List ℕ} {n v f : ℕ} {g : ℕ → ℕ} → SweptBy P cut number n v f f g label label owner owner list list 0
 swept_none = record {
-  owners = record {
-    long = refl;
-    done = λ q a b. absurd (omega arith);
-    nodes = λ k u hk hu d. refl;
-    places = λ q hq c. refl;
-    past = λ k a b. refl;
+  after = λ q. 0;
+  each = λ q a b. absurd (omega arith);
+  all = record {
+    owners = record {
+      long = refl;
+      done = λ q a b. absurd (omega arith);
+      nodes = λ k u hk hu d. refl;
+      places = λ q hq c. refl;
+      past = λ k a b. refl;
+    };
+    labels = λ link agrees starts from. agrees;
+    words = wrote_none _ _ _ _ _ _;
   };
-  labels = λ link agrees starts from. agrees;
-  words = wrote_none _ _ _ _ _ _;
 }
 
 -- the atom's number is in range at each place to sweep
 pub small : {number owner list : List ℕ} {n v f t p : ℕ} → Ready number owner list n v f t → p < t → get_or number p 0 < 512
 small {p = p} ready below = omega (arith, ready.numbers.small p (omega (arith, ready.within)), ready.few)
 
-module _ {cut number label₀ label owner₀ owner list₀ list : List ℕ} {n v f p t k : ℕ} {h : ℕ → ℕ} (ready : Ready number owner₀ list₀ n v f t) (from : f ≤ p) (below : p < t)
-    (swept : SweptAll cut number n v f p (owner_by owner₀ number v) h label₀ label owner₀ owner list₀ list k) where
-  -- there is room for one entry more
-  pub may_settle : length list ≡ length list₀
-      → (p < 512) × (get_or number p 0 < 512) × (v < 16) × (5 * k + 5 ≤ length list) × (k < 512) × (length owner ≡ 8192)
-  may_settle e =
-      let w = swept.words.few in
-      let a = ready.within in
-      let b = ready.few in
-      (omega arith, small ready below, ready.node, omega (arith, ready.room), omega arith, swept.owners.long ∙ ready.size)
-
+module _ {P : ℕ → ℕ → Type 0} {cut number label₀ label owner₀ owner list₀ list : List ℕ} {n v f p t k : ℕ} (ready : Ready number owner₀ list₀ n v f t) (from : f ≤ p) (below : p < t)
+    (swept : SweptBy P cut number n v f p (owner_by owner₀ number v) label₀ label owner₀ owner list₀ list k) where
   -- the owner at the next place is that from before the sweep
   kept : owner_by owner number v p ≡ owner_by owner₀ number v p
-  kept = swept.owners.places p (omega (arith, ready.within)) (inr (omega arith))
+  kept = swept.all.owners.places p (omega (arith, ready.within)) (inr (omega arith))
 
   -- and it is what is read at the index of the place's atom
   pub swept_reads : {atom i : ℕ} → atom ≡ get_or number p 0 → i ≡ 16 * atom + v → get_or owner i 0 ≡ owner_by owner₀ number v p
   swept_reads a e = rw (e, a) kept
 
-  -- one place more swept
-  pub swept_settled : {old new r : ℕ} {label' owner' list' : List ℕ} → old ≡ owner_by owner₀ number v p → new ≡ h p
-      → Settled cut number p v old new k label label' owner owner' list list' r
-      → SweptAll cut number n v f (p + 1) (owner_by owner₀ number v) h label₀ label' owner₀ owner' list₀ list' r
-  swept_settled {old} {new} {r} {label'} {owner'} {list'} o e s = go (rw (o, e) at s) (ℕ_discrete (owner_by owner₀ number v p) (h p))
-    where
-      more_owners : {after : List ℕ} → OneStored owner after (16 * get_or number p 0 + v) (h p) → Swept number owner₀ after n v f (p + 1) h
-      more_owners w = swept_more swept.owners ready.numbers ready.node from (omega (arith, ready.within)) w
+  -- the owners after the sweep, with that of one place more
+  abbrev next : ℕ → ℕ → ℕ
+  next new q = pick (eqb q p) new (swept.after q)
 
-      go : Settled cut number p v (owner_by owner₀ number v p) (h p) k label label' owner owner' list list' r → Dec (owner_by owner₀ number v p ≡ h p)
-          → SweptAll cut number n v f (p + 1) (owner_by owner₀ number v) h label₀ label' owner₀ owner' list₀ list' r
-      go u (yes d) =
-          let z = u.same d in
-          rw (z.0, z.1, z.2, z.3) record {
-            owners = more_owners (record { long = refl; at = kept ∙ d; else = λ j x. refl });
-            labels = λ link agrees starts at. swept.labels link agrees starts (λ q a b. at q a (omega arith));
-            words = wrote_skip swept.words from d;
-          }
-      go u (no d) =
-          let i : 16 * get_or number p 0 + v < length owner = omega (arith, small ready below, ready.node, ready.size, swept.owners.long) in
-          let w : OneStored owner owner' (16 * get_or number p 0 + v) (h p) = rw (u.owners d) (set_stored owner (16 * get_or number p 0 + v) (h p) i) in
-          record {
-            owners = more_owners w;
-            labels = λ link agrees starts at. agrees_moved (swept.labels link agrees starts (λ q a b. at q a (omega arith))) (u.labels d) w kept
-                (starts.here (get_or number p 0) v (small ready below) ready.node) (at p from (omega arith));
-            words = rw (u.more d) (wrote_more swept.words from d (u.words d));
-          }
+  next_here : (new : ℕ) → next new p ≡ new
+  next_here new = rw (eq-eqb p p refl)
+
+  next_below : (new q : ℕ) → f ≤ q → q < p → next new q ≡ swept.after q
+  next_below new q a b = rw (ne_eqb q p (λ d. omega arith))
+
+  next_each : (new : ℕ) → P p new → (q : ℕ) → f ≤ q → q < p + 1 → P q (next new q)
+  next_each new x q a b = go (ℕ_discrete q p)
+    where
+      go : Dec (q ≡ p) → P q (next new q)
+      go (yes d) = rw (d, next_here new) x
+      go (no d) = rw (next_below new q a (omega arith)) (swept.each q a (omega arith))
+
+  more_owners : {after : List ℕ} (new : ℕ) → OneStored owner after (16 * get_or number p 0 + v) new → Swept number owner₀ after n v f (p + 1) (next new)
+  more_owners new w = swept_more (swept_alike (next_below new) swept.all).owners ready.numbers ready.node from (omega (arith, ready.within)) (rw (next_here new) w)
+
+  -- one place more swept, whose owner stays
+  pub swept_still : {old new : ℕ} → old ≡ owner_by owner₀ number v p → P p new → old ≡ new
+      → SweptBy P cut number n v f (p + 1) (owner_by owner₀ number v) label₀ label owner₀ owner list₀ list k
+  swept_still {new = new} o x e =
+      let s = swept_alike (next_below new) swept.all in
+      record {
+        after = next new;
+        each = next_each new x;
+        all = record {
+          owners = more_owners new (record { long = refl; at = kept ∙ sym o ∙ e; else = λ j d. refl });
+          labels = λ link agrees starts at. s.labels link agrees starts (λ q a b. at q a (omega arith));
+          words = wrote_skip s.words from (sym o ∙ e ∙ sym (next_here new));
+        };
+      }
+
+  -- one place more swept, whose owner changes
+  pub swept_changed : {old new atom i from_link to_link k' : ℕ} {label' owner' list' : List ℕ} → old ≡ owner_by owner₀ number v p → P p new → (old ≡ new → ⊥)
+      → atom ≡ get_or number p 0 → i ≡ 16 * atom + v → owner' ≡ set owner i new
+      → from_link ≡ via old → to_link ≡ via new → Moved label label' from_link to_link atom
+      → list' ≡ take (5 * k) list ++ (atom ∷ get_or cut p 0 ∷ get_or cut (p + 1) 0 ∷ from_link ∷ to_link ∷ []) ++ drop (5 * k + 5) list
+      → k' ≡ k + 1 → SweptBy P cut number n v f (p + 1) (owner_by owner₀ number v) label₀ label' owner₀ owner' list₀ list' k'
+  swept_changed {old} {new} {label' = label'} {owner' = owner'} o x d is at stored goes comes moved written counted =
+      let s = swept_alike (next_below new) swept.all in
+      let inside : 16 * get_or number p 0 + v < length owner = omega (arith, small ready below, ready.node, ready.size, s.owners.long) in
+      let w : OneStored owner owner' (16 * get_or number p 0 + v) new = rw (stored, at, is) (set_stored owner (16 * get_or number p 0 + v) new inside) in
+      let m : Moved label label' (via old) (via new) (get_or number p 0) = rw (← goes, ← comes, ← is) moved in
+      record {
+        after = next new;
+        each = next_each new x;
+        all = record {
+          owners = more_owners new w;
+          labels = λ link agrees starts at. agrees_moved (s.labels link agrees starts (λ q a b. at q a (omega arith))) m w (kept ∙ sym o)
+              (rw o (starts.here (get_or number p 0) v (small ready below) ready.node)) (rw (next_here new) at (at p from (omega arith)));
+          words = rw counted (wrote_more s.words from (λ e. d (o ∙ e ∙ next_here new)) (rw (next_here new, ← o, ← goes, ← comes, ← is) written));
+        };
+      }

@@ -1,6 +1,6 @@
 -- What a sweep leaves after the word of one rule has changed: the owners and the labels are those of the new state, and the list is its list.
 -- And that the sweeps' new owners are the new winners. Assumes nothing.
-use mathlib.Core.Path.{◌≡◌, refl, sym, ap, ap₂, ◌∙◌, subst⁻¹}
+use mathlib.Core.Path.{◌≡◌, refl, sym, ap, ap₂, ◌∙◌}
 use mathlib.Core.Logic.{inl, inr}
 use mathlib.Core.Bool.{Bool, true, false, not}
 use mathlib.Core.List.{List, [], ◌∷◌, ◌++◌}
@@ -16,7 +16,6 @@ use Rattle.meaning.specs.Rule.{link_of, rank, covers}
 use Rattle.meaning.specs.Winner.{better, rule_at, node_for, eligible, winner, link_for, next_at}
 use Rattle.meaning.specs.Working.{owner_word}
 use Rattle.meaning.specs.Changes.{link_or_none, changed_at, entry_at, entries_at, overwrite}
-use Rattle.meaning.specs.Atoms.{with_cut}
 use Rattle.meaning.specs.Step.{with_rule, listed, list_room}
 use Rattle.meaning.specs.Tables.{Sound}
 use Rattle.lent.specs.Owners.{owner_in, via, Owned, Whole, Listed, Numbered}
@@ -27,8 +26,7 @@ use Rattle.meaning.proofs.atoms.ChangeList.{entries_length, list_to, list_none, 
 use Rattle.meaning.proofs.sound.OneRule.{Joined, winner_le, never, stays, joined, owner_alike}
 use Rattle.lent.proofs.OwnerRules.{Differ, Spans, differ_in, differ_out, in_span, node_small, owner_once, via_owner, owner_source}
 use Rattle.tables.specs.Gathered.{Gathers, best_in}
-use Rattle.tables.specs.Rows.{Split}
-use Rattle.tables.specs.Sweep.{Ready, SweptAll, entries_from, owner_by, owner_for, raised, heir_of}
+use Rattle.tables.specs.Sweep.{Ready, SweptAll, SweptBy, entries_from, owner_by, owner_for, raised, heir_of}
 use Rattle.tables.proofs.Rules.{covers_between, best_gathered}
 
 -- ---- the tables after a sweep
@@ -221,20 +219,6 @@ module _ (m n : State) (r z v : ℕ) (J : Joined m n r z v) (a mine : ℕ) (is :
           rw (ne_eqb (owner_word n y) mine (λ e. d (owner_once n n y r (winner_le n J.more v a) (omega (arith, J.slot)) (e ∙ mine_is))))
           (sym (owner_alike m n r z v J v a (stays m n r z v J v a d)))
 
--- ---- a boundary is made
-
--- a state with these boundaries, numbers and atoms
-abbrev pub cut_as : State → List ℕ → List ℕ → ℕ → State
-cut_as m cut number n = record { width = m.width; plan = m.plan; rule = m.rule; atoms = record { count = n; cut = cut; number = number } }
-
-module _ (m : State) (b : ℕ) {cut number : List ℕ} {n : ℕ} (s : Split m.atoms.cut m.atoms.number m.atoms.count b cut number n) where
-  pub split_is : cut_as m cut number n ≡ with_cut m b
-  unfolding with_cut
-  split_is = rw (s.cuts, s.numbers, s.count)
-
-  pub split_whole : {label owner : List ℕ} → Whole (with_cut m b) label owner → Whole (cut_as m cut number n) label owner
-  split_whole {label} {owner} W = subst⁻¹ (λ (o : State). Whole o label owner) split_is W
-
 -- ---- an insert and a remove, over the places that the rule covers
 
 pub listed_as : {m n n' : State} {v v' : ℕ} {label owner list list' : List ℕ} {count : ℕ} → n ≡ n' → v ≡ v'
@@ -263,6 +247,14 @@ module _ {m : State} {label owner list : List ℕ} {v f t z : ℕ} where
     room = room;
   }
 
+-- a place's owner at a node holds a rule's number, counted from 1
+pub numbered_at : {m : State} {label owner : List ℕ} {v f t z : ℕ} → Whole m label owner → v < 16 → Spans m.width m.atoms.cut m.atoms.count z f t → (q : ℕ) → q < t
+    → (owner_by owner m.atoms.number v q ≡ 0 → ⊥) → (0 < owner_by owner m.atoms.number v q % 512) × (owner_by owner m.atoms.number v q % 512 ≤ 256)
+numbered_at {m} {label} {owner} {v} W hv P q b =
+    let k : get_or m.atoms.number q 0 < 512 = omega (arith, W.sound.numbers.small q (omega (arith, P.within)), W.sound.cuts.room) in
+    let n = numbered m label owner W in
+    λ z. (n.from (get_or m.atoms.number q 0) v k hv z, n.upto (get_or m.atoms.number q 0) v k hv)
+
 module _ (m : State) (r z v f t : ℕ) {label owner : List ℕ} (W : Whole m label owner) (P : Spans m.width m.atoms.cut m.atoms.count z f t) (mine : ℕ) (is : mine ≡ link_of m.width z * 512 + (r + 1)) where
   abbrev old : ℕ → ℕ
   old = owner_by owner m.atoms.number v
@@ -270,25 +262,27 @@ module _ (m : State) (r z v f t : ℕ) {label owner : List ℕ} (W : Whole m lab
   old_is : v < 16 → (q : ℕ) → q < t → old q ≡ owner_word m (winner m v (get_or m.atoms.cut q 0))
   old_is hv q b = W.owned.right q v (omega (arith, P.within)) hv
 
-  module _ {label' owner' list list' : List ℕ} {count : ℕ} where
+  module _ {A : ℕ → ℕ → Type 0} {label' owner' list list' : List ℕ} {count : ℕ} (s : SweptBy A m.atoms.cut m.atoms.number m.atoms.count v f t old label label' owner owner' list list' count) where
     -- THE LAW of an insert; o is the state before its boundaries were made
     pub taken_in : Joined m (with_rule m r z) r z v → (o : State) → SameRules o m → (k : ℕ) → k ≡ rank m.width z
-        → SweptAll m.atoms.cut m.atoms.number m.atoms.count v f t old (λ q. raised m.width m.rule mine k (old q)) label label' owner owner' list list' count
+        → ((q e : ℕ) → f ≤ q → q < t → A q e → e ≡ raised m.width m.rule mine k (old q))
         → Listed o (with_rule m r z) v label' owner' list list' count
     unfolding with_rule
-    taken_in J o same k e = updated m r z v f t label owner W J.more (differ_in J W.sound.cuts P) _ (λ q a b.
-        let s = in_span W.sound.cuts P q a b in
+    taken_in J o same k e is_raised = updated m r z v f t label owner W J.more (differ_in J W.sound.cuts P) s.after (λ q a b.
+        let i = in_span W.sound.cuts P q a b in
         let x = get_or m.atoms.cut q 0 in
-        ap₂ (raised m.width m.rule mine) e (old_is (node_small J) q b)
-        ∙ raised_is m (with_rule m r z) r z v J x mine is (covers_between m.width z x _ _ refl refl s.0 s.1)) o same
+        is_raised q (s.after q) a b (s.each q a b)
+        ∙ ap₂ (raised m.width m.rule mine) e (old_is (node_small J) q b)
+        ∙ raised_is m (with_rule m r z) r z v J x mine is (covers_between m.width z x _ _ refl refl i.0 i.1)) o same s.all
 
     -- THE LAW of a remove
     pub taken_out : {among : List ℕ} {few : ℕ} → Joined (with_rule m r 0) m r z v → Gathers m.width m.plan.link (set m.rule r 0) v z among few
-        → SweptAll m.atoms.cut m.atoms.number m.atoms.count v f t old (λ q. heir_of m.width (set m.rule r 0) among few mine (get_or m.atoms.cut q 0) (old q)) label label' owner owner' list list' count
+        → ((q e : ℕ) → f ≤ q → q < t → A q e → e ≡ heir_of m.width (set m.rule r 0) among few mine (get_or m.atoms.cut q 0) (old q))
         → Listed m (with_rule m r 0) v label' owner' list list' count
     unfolding with_rule
-    taken_out {among} {few} J G = updated m r 0 v f t label owner W J.less (differ_out J W.sound.cuts P) _ (λ q a b.
-        let s = in_span W.sound.cuts P q a b in
+    taken_out {among} {few} J G is_heir = updated m r 0 v f t label owner W J.less (differ_out J W.sound.cuts P) s.after (λ q a b.
+        let i = in_span W.sound.cuts P q a b in
         let x = get_or m.atoms.cut q 0 in
-        ap (heir_of m.width (set m.rule r 0) among few mine x) (old_is (node_small J) q b)
-        ∙ heir_is (with_rule m r 0) m r z v J x mine is among few (best_gathered (with_rule m r 0) v z x among few J.less G s.0 s.1)) m (record { width = refl; rule = refl; link = refl })
+        is_heir q (s.after q) a b (s.each q a b)
+        ∙ ap (heir_of m.width (set m.rule r 0) among few mine x) (old_is (node_small J) q b)
+        ∙ heir_is (with_rule m r 0) m r z v J x mine is among few (best_gathered (with_rule m r 0) v z x among few J.less G i.0 i.1)) m (record { width = refl; rule = refl; link = refl }) s.all

@@ -1,5 +1,5 @@
 -- Rules by their words, over the width of their addresses: those that stand at a node, those that tie, a node's links, and the best among gathered ones. Assumes nothing: these are definitions.
-use Rattle.std.specs.Prelude.{◌≡◌, Bool, true, ◌&&◌, List, ℕ, zero, suc, ◌-◌, ◌/◌, ◌^◌, ◌<◌, ◌≤◌, eqb, get_or}
+use Rattle.std.specs.Prelude.{◌≡◌, Bool, true, ◌&&◌, List, ℕ, zero, suc, ◌-◌, ◌/◌, ◌^◌, ◌<◌, ◌≤◌, eqb, get_or, Option, Some, None, MatchOption, ⊤}
 use Rattle.meaning.specs.Search.{pick}
 use Rattle.meaning.specs.Rule.{live, link_of, rank, overlap}
 use Rattle.meaning.specs.Winner.{better}
@@ -35,6 +35,15 @@ pub record Gathering (width : ℕ) (link rule : List ℕ) (v w : ℕ) (among : L
 -- the numbers in `among`, count of them, are those of the live rules at node v that overlap with w
 abbrev pub Gathers : (width : ℕ) (link rule : List ℕ) (v w : ℕ) (among : List ℕ) (count : ℕ) → Type 0
 Gathers width link rule v w among count = Gathering width link rule v w among count 256
+
+-- the number of a rule that was looked for, and 256 for none
+abbrev pub number_of : Option ℕ → ℕ
+number_of (Some i) = i
+number_of None = 256
+
+-- what was found is the number of a rule
+abbrev pub IsRule : Option ℕ → Type 0
+IsRule o = MatchOption o ⊤ (λ i. i < 256)
 
 -- the one of the highest rank among the first gathered that have E, or 256
 unfoldable pub best_in : (ℕ → Bool) → (ℕ → ℕ) → List ℕ → ℕ → ℕ

@@ -3,7 +3,9 @@
 pub mod Bits
 -- rules by their words, and the best among gathered ones
 pub mod Gathered
--- what making a boundary does to the tables
+-- what an update comes to, as a step
+pub mod Outcome
+-- what making a boundary does to the labels and the owners
 pub mod Rows
 -- a sweep over the places from one to below another
 pub mod Sweep

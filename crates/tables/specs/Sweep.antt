@@ -1,13 +1,12 @@
 -- A sweep over the places from f to below t, at node v: the owner at place q goes from g q to h q, place by place.
 -- Assumes nothing: these are definitions.
-use Rattle.std.specs.Prelude.{◌≡◌, ◌||◌, ◌⊎◌, List, [], ◌∷◌, ◌++◌, ℕ, zero, suc, ◌+◌, ◌-◌, ◌*◌, ◌/◌, ◌%◌, ◌≤◌, ◌<◌, eqb, ltb, length, get_or, set, take, drop}
+use Rattle.std.specs.Prelude.{◌≡◌, ◌||◌, ◌⊎◌, List, [], ◌∷◌, ◌++◌, ℕ, zero, suc, ◌+◌, ◌-◌, ◌*◌, ◌/◌, ◌%◌, ◌≤◌, ◌<◌, eqb, ltb, length, get_or}
 use Rattle.meaning.specs.Search.{pick}
 use Rattle.meaning.specs.Changes.{entry_words, overwrite}
 use Rattle.meaning.specs.Rule.{link_of, rank, covers}
 use Rattle.meaning.specs.Step.{list_room}
 use Rattle.meaning.specs.Tables.{Numbers}
 use Rattle.lent.specs.Owners.{owner_in, via, Agrees, Starts}
-use Rattle.tables.specs.Bits.{Moved}
 use Rattle.tables.specs.Gathered.{best_in}
 
 -- the owners at node v of the places from f to below t are those of h, and no other owner moves
@@ -51,18 +50,6 @@ unfoldable pub heir_of : ℕ → List ℕ → List ℕ → ℕ → ℕ → ℕ �
 heir_of width rule among count gone a e =
     pick (eqb e gone) (owner_for width rule (best_in (λ k. covers width (get_or rule k 0) a) (λ k. rank width (get_or rule k 0)) among count)) e
 
--- what one place of a sweep does: nothing where the owner stays, else the owner, the atom's links and the list change
-pub record Settled (cut number : List ℕ) (p v old new k : ℕ) (label label' owner owner' list list' : List ℕ) (r : ℕ) : Type 0 where
-  pub same : old ≡ new → (label' ≡ label) × (owner' ≡ owner) × (list' ≡ list) × (r ≡ k)
-  pub owners : (old ≡ new → ⊥) → owner' ≡ set owner (16 * get_or number p 0 + v) new
-  pub labels : (old ≡ new → ⊥) → Moved label label' (via old) (via new) (get_or number p 0)
-  pub words : (old ≡ new → ⊥)
-      → list' ≡ take (entry_words * k) list ++ (get_or number p 0 ∷ get_or cut p 0 ∷ get_or cut (p + 1) 0 ∷ via old ∷ via new ∷ []) ++ drop (entry_words * k + entry_words) list
-  pub more : (old ≡ new → ⊥) → r ≡ k + 1
-  pub size : length owner' ≡ length owner
-  pub room : length list' ≡ length list
-  pub near : (k ≤ r) × (r ≤ k + 1)
-
 -- what a sweep needs: the places, the node and the room
 pub record Ready (number owner list : List ℕ) (n v f t : ℕ) : Type 0 where
   pub numbers : Numbers number n
@@ -73,9 +60,15 @@ pub record Ready (number owner list : List ℕ) (n v f t : ℕ) : Type 0 where
   pub size : length owner ≡ 8192
   pub room : list_room ≤ length list
 
--- what a sweep leaves; at each place t on the way it is the sweep's invariant
+-- what a sweep to the owners of h leaves
 pub record SweptAll (cut number : List ℕ) (n v f t : ℕ) (g h : ℕ → ℕ) (label label' owner owner' list list' : List ℕ) (r : ℕ) : Type 0 where
   pub owners : Swept number owner owner' n v f t h
   pub labels : (link : List ℕ) → Agrees link label owner → Starts link owner
       → ((q : ℕ) → f ≤ q → q < t → (h q ≡ 0 → ⊥) → get_or link (via (h q)) 0 / 1024 ≡ v) → Agrees link label' owner'
   pub words : WroteEntries g h cut number f (t - f) list list' r
+
+-- what a sweep leaves where P says at each place which owner may come to be there; at each place t on the way it is the sweep's invariant
+pub record SweptBy (P : ℕ → ℕ → Type 0) (cut number : List ℕ) (n v f t : ℕ) (g : ℕ → ℕ) (label label' owner owner' list list' : List ℕ) (r : ℕ) : Type 0 where
+  pub after : ℕ → ℕ
+  pub each : (q : ℕ) → f ≤ q → q < t → P q (after q)
+  pub all : SweptAll cut number n v f t g after label label' owner owner' list list' r

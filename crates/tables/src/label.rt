@@ -1,17 +1,16 @@
 // Labels: 512 words, link l's at 8 l to 8 l + 7, and atom k the bit k % 64 of the word k / 64 of these.
-ghost use Rattle.std.specs.Prelude.{◌<◌, ◌≤◌};
-ghost use Rattle.meaning.specs.Changes.{no_link};
+ghost use Rattle.std.specs.Prelude.{◌<◌};
 ghost use Rattle.lent.specs.Owners.{Words};
-ghost use Rattle.tables.specs.Bits.{Put, TakenOff, Moved};
+ghost use Rattle.tables.specs.Bits.{Put, TakenOff, Moved, IsLink, link_number};
 
 use crate::atom::Atom;
 
-// What the type of a label table says of its list: for callers' proofs.
+// What the type of a label table says of its list, for callers' proofs: tried without, and the proof didn't close. After a call that
+// was lent the hall the check knows neither how long the table is nor that its words fit, before one is read.
 pub fn known(label: &[u64; 512])
     ensures { Words label.now }
 {
-    let s: &[u64] = label;
-    let w = s[0];
+    let _word = label[0];
 }
 
 // Puts an atom on a link.
@@ -19,9 +18,8 @@ pub fn put(label: &mut [u64; 512], link: usize, atom: Atom)
     requires { (link < 64) × (atom.0 < 512) }
     ensures { Put label.old label.new link atom.0 }
 {
-    let s: &mut [u64] = label;
     let k = atom.0 as usize;
-    s[8 * link + k / 64] |= 1u64 << (k % 64);
+    label[8 * link + k / 64] |= 1 << (k % 64);
 }
 
 // Takes an atom off a link.
@@ -29,20 +27,19 @@ pub fn take_off(label: &mut [u64; 512], link: usize, atom: Atom)
     requires { (link < 64) × (atom.0 < 512) }
     ensures { TakenOff label.old label.new link atom.0 }
 {
-    let s: &mut [u64] = label;
     let k = atom.0 as usize;
-    s[8 * link + k / 64] &= !(1u64 << (k % 64));
+    label[8 * link + k / 64] &= !(1 << (k % 64));
 }
 
-// Moves an atom from the link old to the link new, where each may be no link.
-pub fn move_atom(label: &mut [u64; 512], old: usize, new: usize, atom: Atom)
-    requires { (old ≤ no_link) × (new ≤ no_link) × (atom.0 < 512) }
-    ensures { Moved label.old label.new old new atom.0 }
+// Moves an atom from the link old to the link new, where each may be none.
+pub fn move_atom(label: &mut [u64; 512], old: Option<usize>, new: Option<usize>, atom: Atom)
+    requires { IsLink old × IsLink new × (atom.0 < 512) }
+    ensures { Moved label.old label.new (link_number old) (link_number new) atom.0 }
 {
-    if old < 64 {
-        take_off(label, old, atom);
+    if let Some(link) = old {
+        take_off(label, link, atom);
     }
-    if new < 64 {
-        put(label, new, atom);
+    if let Some(link) = new {
+        put(label, link, atom);
     }
 }

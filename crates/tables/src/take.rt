@@ -1,96 +1,84 @@
-// An insert or a remove that has been read: the checks in their order, then what it does to the tables and to the lent list.
-ghost use Rattle.std.specs.Prelude.{◌≡◌, ◌≤◌};
-ghost use Rattle.meaning.specs.Box.{state_of, Held, left, left_for};
-ghost use Rattle.meaning.specs.declared.Answer.TheVariants.{Refused};
-ghost use Rattle.meaning.specs.declared.Read.TheVariants.{Got};
+// An insert or a remove that has been read: the checks in their order, then what it does to the hall and to the lent list.
+ghost use Rattle.std.specs.Prelude.{◌≡◌, List, ℕ, ◌≤◌, ltb, eqb, not, Result, length};
+ghost use Rattle.std.proofs.Math.Option.{none};
+ghost use Rattle.meaning.specs.Hall.{stage};
+ghost use Rattle.meaning.specs.Box.{state_of, HeldBy, left_in, left_for};
+ghost use Rattle.meaning.specs.Records.{got};
+ghost use Rattle.meaning.specs.Step.{list_room, when, checked};
+ghost use Rattle.meaning.specs.declared.Refusal.TheVariants.{ShortList, OutOfOrder};
+ghost use Rattle.meaning.specs.declared.hall.Phase.TheVariants.{Closed};
 ghost use Rattle.meaning.specs.declared.Record.TheVariants.{Insert as insertion, Remove as removal};
+ghost use Rattle.tables.specs.Outcome.{told, passed_of, unready};
 
-use meaning::{Answer, Check, Hall, Rule, Step};
+use meaning::{Answer, Hall, Phase, Refusal, Rule, Step};
 
-// A step that refuses and changes nothing.
-fn refused(h: Hall, passed: usize, k: u8) -> Step
-    ensures { result ≡ record { answer = Refused k; passed = passed; hall = h } }
+// What refuses any update: a list that is too short, and a hall that is not closed.
+fn ready(hall: &Hall, list: &[u64]) -> Result<(), Refusal>
+    ensures { checked result ≡ unready hall.now.plan.phase list.now }
 {
-    Step {
-        answer: Answer::Refused(k),
-        passed,
-        hall: h,
+    if list.len() < meaning::LIST_ROOM {
+        return Err(Refusal::ShortList);
+    }
+    if hall.plan.phase != Phase::Closed {
+        return Err(Refusal::OutOfOrder);
+    }
+    Ok(())
+}
+
+// The step of an update whose record has `passed` bytes: it has done what it lists, or was refused. Where the list is too short no byte is passed.
+fn step(passed: usize, outcome: Result<u16, Refusal>) -> Step
+    ensures { result ≡ record { answer = told outcome; passed = passed_of passed outcome } }
+{
+    match outcome {
+        Ok(listed) => Step {
+            answer: Answer::Changed(listed),
+            passed,
+        },
+        Err(why) => Step {
+            answer: Answer::Refused(why),
+            passed: if why == Refusal::ShortList { 0 } else { passed },
+        },
     }
 }
 
-// An insert record of `passed` bytes that has been read: it is refused by the number of its check, or done.
-pub fn take_insert(
-    h: Hall,
-    link: &[u16; 64],
-    rule: &mut [u64; 256],
-    cut: &mut [u64; 513],
-    number: &mut [u16; 512],
-    label: &mut [u64; 512],
-    owner: &mut [u16; 8192],
-    list: &mut [u64],
-    passed: usize,
-    r: u16,
-    x: Rule,
-) -> Step
-    requires { Held (state_of h link.now rule.old cut.old number.old) label.old owner.old }
-    ensures { left result.answer result.passed (state_of result.hall link.now rule.new cut.new number.new) label.new owner.new list.new
-        ≡ left_for (state_of h link.now rule.old cut.old number.old) list.old (Got (insertion r x.link x.prefix x.length x.priority) passed) }
+// An insert that is refused, or done with so many entries listed.
+fn insert(hall: &mut Hall, list: &mut [u64], r: u16, x: Rule) -> Result<u16, Refusal>
+    requires { HeldBy hall.old }
+    ensures { (n : ℕ) → left_in (told result) (passed_of n result) hall.new list.new
+        ≡ left_for (state_of hall.old) list.old (got (insertion r x.link x.prefix x.length x.priority) n) }
 {
-    if list.len() < meaning::LIST_ROOM {
-        return refused(h, 0, 0);
-    }
-    if h.phase != 2 {
-        return refused(h, passed, 3);
-    }
-    match crate::update::check_insert(h, link, rule, cut, r, x) {
-        Check::Refused(k) => refused(h, passed, k),
-        Check::Passed => {
-            let u = crate::update::insert(h, link, rule, cut, number, label, owner, list, r, x);
-            crate::label::known(label);
-            let hall = u.hall;
-            Step {
-                answer: Answer::Changed(u.listed),
-                passed,
-                hall,
-            }
-        }
-    }
+    ready(hall, list)?;
+    crate::update::check_insert(hall, r, x)?;
+    let listed = crate::update::insert(hall, list, r, x);
+    crate::label::known(&hall.label);
+    Ok(listed)
 }
 
-// A remove record of `passed` bytes that has been read: it is refused by the number of its check, or done.
-pub fn take_remove(
-    h: Hall,
-    link: &[u16; 64],
-    rule: &mut [u64; 256],
-    cut: &[u64; 513],
-    number: &[u16; 512],
-    label: &mut [u64; 512],
-    owner: &mut [u16; 8192],
-    list: &mut [u64],
-    passed: usize,
-    r: u16,
-) -> Step
-    requires { Held (state_of h link.now rule.old cut.now number.now) label.old owner.old }
-    ensures { left result.answer result.passed (state_of result.hall link.now rule.new cut.now number.now) label.new owner.new list.new
-        ≡ left_for (state_of h link.now rule.old cut.now number.now) list.old (Got (removal r) passed) }
+// A remove that is refused, or done with so many entries listed.
+fn remove(hall: &mut Hall, list: &mut [u64], r: u16) -> Result<u16, Refusal>
+    requires { HeldBy hall.old }
+    ensures { (n : ℕ) → left_in (told result) (passed_of n result) hall.new list.new ≡ left_for (state_of hall.old) list.old (got (removal r) n) }
 {
-    if list.len() < meaning::LIST_ROOM {
-        return refused(h, 0, 0);
-    }
-    if h.phase != 2 {
-        return refused(h, passed, 3);
-    }
-    match crate::update::check_remove(rule, r) {
-        Check::Refused(k) => refused(h, passed, k),
-        Check::Passed => {
-            let u = crate::update::remove(h, link, rule, cut, number, label, owner, list, r);
-            crate::label::known(label);
-            let hall = u.hall;
-            Step {
-                answer: Answer::Changed(u.listed),
-                passed,
-                hall,
-            }
-        }
-    }
+    ready(hall, list)?;
+    crate::update::check_remove(hall, r)?;
+    let listed = crate::update::remove(hall, list, r);
+    crate::label::known(&hall.label);
+    Ok(listed)
+}
+
+// An insert record of `passed` bytes that has been read: it is refused by its check, or done.
+pub fn take_insert(hall: &mut Hall, list: &mut [u64], passed: usize, r: u16, x: Rule) -> Step
+    requires { HeldBy hall.old }
+    ensures { left_in result.answer result.passed hall.new list.new
+        ≡ left_for (state_of hall.old) list.old (got (insertion r x.link x.prefix x.length x.priority) passed) }
+{
+    step(passed, insert(hall, list, r, x))
+}
+
+// A remove record of `passed` bytes that has been read: it is refused by its check, or done.
+pub fn take_remove(hall: &mut Hall, list: &mut [u64], passed: usize, r: u16) -> Step
+    requires { HeldBy hall.old }
+    ensures { left_in result.answer result.passed hall.new list.new ≡ left_for (state_of hall.old) list.old (got (removal r) passed) }
+{
+    step(passed, remove(hall, list, r))
 }

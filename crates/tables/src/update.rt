@@ -1,372 +1,277 @@
 // Updates: the checks of an insert and a remove, and what an accepted one does to the tables.
-ghost use Rattle.std.specs.Prelude.{◌≡◌, Bool, true, false, ◌||◌, List, [], ◌∷◌, ◌++◌, ℕ, ◌+◌, ◌-◌, ◌*◌, ◌/◌, ◌%◌, ◌^◌, ◌≤◌, ◌<◌, eqb, ltb, length, get_or, set, take, drop};
+ghost use Rattle.std.specs.Prelude.{◌≡◌, List, ◌++◌, ℕ, ◌+◌, ◌*◌, ◌%◌, ◌^◌, ◌≤◌, ◌<◌, length, get_or, take, drop, Result};
 ghost use Rattle.std.proofs.Math.Option.{none};
 ghost use Rattle.meaning.specs.Search.{pick};
-ghost use Rattle.meaning.specs.Hall.{ipv4, State};
-ghost use Rattle.meaning.specs.Rule.{rule_word, live, link_of, rank as rank_of, lower, upper};
+ghost use Rattle.meaning.specs.Hall.{ipv4};
 ghost use Rattle.meaning.specs.Atoms.{is_cut};
-ghost use Rattle.meaning.specs.Changes.{entry_words, no_link};
+ghost use Rattle.meaning.specs.Changes.{entry_words};
 ghost use Rattle.meaning.specs.Records.{insert, remove};
 ghost use Rattle.meaning.specs.Step.{list_room, checked, ragged, update_refusal, updated, node_of};
 ghost use Rattle.meaning.specs.Box.{state_of};
-ghost use Rattle.meaning.specs.Tables.{Cuts, Numbers};
-ghost use Rattle.lent.specs.Owners.{via, Numbered, Whole, Listed};
-ghost use Rattle.tables.specs.Bits.{Moved};
-ghost use Rattle.tables.specs.Sweep.{owner_by, owner_for, raised, heir_of, Settled, Ready, SweptAll};
+ghost use Rattle.meaning.specs.Tables.{Cuts};
+ghost use Rattle.meaning.specs.declared.hall.Phase.TheVariants.{Closed};
+ghost use Rattle.lent.specs.Owners.{via, WholeBy, ListedIn};
+ghost use Rattle.tables.specs.Bits.{IsLink, link_number};
+ghost use Rattle.tables.specs.Gathered.{number_of, IsRule};
+ghost use Rattle.tables.specs.Sweep.{owner_by, owner_for, raised, heir_of, Ready, SweptBy};
 
-use crate::atom::{Atom, Place};
-use meaning::{Check, Hall, Rule, Updated};
+use crate::atom::Place;
+use meaning::{Atoms, Hall, Refusal, Rule};
 
 // ---- the checks
 
 // Whether a prefix has a one bit below its length.
+#[tactic(auto, unfolding(meaning::specs::Step::ragged), using(meaning::proofs::base::Bits::shifted))]
 fn is_ragged(prefix: u32, length: u8) -> bool
     requires { length ≤ ipv4 }
     ensures { result ≡ ragged ipv4 prefix length }
 {
-    prefix as u64 % (1u64 << (32 - length)) != 0
+    u64::from(prefix) % (1 << (32 - length)) != 0
 }
 
 // One where b is no boundary, else none.
-fn adds(cut: &[u64; 513], n: usize, b: u64) -> usize
-    requires { Cuts (2 ^ ipv4) cut.now n }
-    ensures { (result ≡ pick (is_cut cut.now n b) 0 1) × (result ≤ 1) }
+#[tactic(auto, unfolding(meaning::specs::Atoms::is_cut))]
+fn adds(atoms: &Atoms, b: u64) -> usize
+    requires { Cuts (2 ^ ipv4) atoms.now.cut atoms.now.count }
+    ensures { (result ≡ pick (is_cut atoms.now.cut atoms.now.count b) 0 1) × (result ≤ 1) }
 {
-    let p = crate::atom::place_of(cut, n, b).0;
-    if cut[p] == b {
-        return 0;
-    }
-    1
+    let p = crate::atom::place_of(atoms, b).0;
+    usize::from(atoms.cut[p] != b)
 }
 
 // The checks of an insert, in their order.
-pub fn check_insert(
-    h: Hall,
-    link: &[u16; 64],
-    rule: &[u64; 256],
-    cut: &[u64; 513],
-    r: u16,
-    x: Rule,
-) -> Check
-    requires { (Cuts (2 ^ ipv4) cut.now h.atoms) × (h.links ≤ 64) }
-    ensures { (number : List ℕ) → checked result ≡ update_refusal (state_of h link.now rule.now cut.now number) (insert r x.link x.prefix x.length x.priority) }
+pub fn check_insert(hall: &Hall, r: u16, x: Rule) -> Result<(), Refusal>
+    requires { WholeBy hall.now }
+    ensures { checked result ≡ update_refusal (state_of hall.now) (insert r x.link x.prefix x.length x.priority) }
 {
     if 255 < r {
-        return Check::Refused(8);
+        return Err(Refusal::NoRule);
     }
-    if rule[r as usize] != 0 {
-        return Check::Refused(9);
+    if hall.rule[r as usize] != 0 {
+        return Err(Refusal::RuleLive);
     }
-    if h.links <= x.link {
-        return Check::Refused(5);
+    if hall.plan.links <= x.link {
+        return Err(Refusal::NoLink);
     }
-    if 32 < x.length {
-        return Check::Refused(11);
-    }
-    if is_ragged(x.prefix, x.length) {
-        return Check::Refused(11);
+    if 32 < x.length || is_ragged(x.prefix, x.length) {
+        return Err(Refusal::NoPrefix);
     }
     let w = crate::rule::pack(x);
-    let v = crate::link::source_of(link[x.link as usize]);
-    if crate::rule::ties(link, rule, v, w) {
-        return Check::Refused(12);
+    let v = crate::link::source_of(hall.plan.link[x.link as usize]);
+    if crate::rule::ties(hall, v, w) {
+        return Err(Refusal::Tie);
     }
-    let n = h.atoms as usize;
-    let more = adds(cut, n, crate::rule::lower_of(w)) + adds(cut, n, crate::rule::upper_of(w));
-    if 512 < n + more {
-        return Check::Refused(13);
+    let atoms = &hall.atoms;
+    let more = adds(atoms, crate::rule::lower_of(w)) + adds(atoms, crate::rule::upper_of(w));
+    if 512 < atoms.count as usize + more {
+        return Err(Refusal::CutsFull);
     }
-    Check::Passed
+    Ok(())
 }
 
 // The checks of a remove, in their order.
-pub fn check_remove(rule: &[u64; 256], r: u16) -> Check
-    ensures { (m : State) → m.rule ≡ rule.now → checked result ≡ update_refusal m (remove r) }
+pub fn check_remove(hall: &Hall, r: u16) -> Result<(), Refusal>
+    ensures { checked result ≡ update_refusal (state_of hall.now) (remove r) }
 {
     if 255 < r {
-        return Check::Refused(8);
+        return Err(Refusal::NoRule);
     }
-    if rule[r as usize] == 0 {
-        return Check::Refused(10);
+    if hall.rule[r as usize] == 0 {
+        return Err(Refusal::RuleNotLive);
     }
-    Check::Passed
+    Ok(())
 }
 
 // ---- one change
 
-// Writes entry k of the list.
-fn write_entry(list: &mut [u64], k: usize, atom: Atom, low: u64, high: u64, old: u64, new: u64)
-    requires { (entry_words * k + entry_words ≤ length list.old) × (k < 512) }
-    ensures { list.new ≡ take (entry_words * k) list.old ++ (atom.0 ∷ low ∷ high ∷ old ∷ new ∷ []) ++ drop (entry_words * k + entry_words) list.old }
+// Rule r on a link, as an owner.
+fn owner_of(link: usize, r: usize) -> u16
+    requires { (link < 64) × (r < 256) }
+    ensures { result ≡ link * 512 + (r + 1) }
 {
-    let i = 5 * k;
-    list[i] = atom.0 as u64;
-    list[i + 1] = low;
-    list[i + 2] = high;
-    list[i + 3] = old;
-    list[i + 4] = new;
+    (link * 512 + r + 1) as u16
 }
 
-// The link that an owner names, or no link.
-fn via_of(owner: u16) -> u64
-    ensures { (result ≡ via owner) × (result ≤ no_link) }
+// The link that an owner names.
+#[tactic(auto, unfolding(lent::specs::Owners::via))]
+fn via_of(owner: u16) -> Option<usize>
+    ensures { (link_number result ≡ via owner) × IsLink result }
 {
     if owner == 0 {
-        return meaning::NO_LINK;
+        None
+    } else {
+        Some((owner / 512 % 64) as usize)
     }
-    (owner / 512 % 64) as u64
 }
 
-// At place p the owner at node v goes from old to new: the atom moves from link to link, and the change is entry k of the list.
-fn change_owner(
-    cut: &[u64; 513],
-    number: &[u16; 512],
-    label: &mut [u64; 512],
-    owner: &mut [u16; 8192],
-    list: &mut [u64],
-    p: Place,
-    v: usize,
-    old: u16,
-    new: u16,
-    k: usize,
-)
-    requires { (p.0 < 512) × (get_or number.now p.0 0 < 512) × (v < 16) × (entry_words * k + entry_words ≤ length list.old) × (k < 512) × (length owner.old ≡ 8192) }
-    ensures owner_after { owner.new ≡ set owner.old (16 * get_or number.now p.0 0 + v) new }
-    ensures moved { Moved label.old label.new (via old) (via new) (get_or number.now p.0 0) }
-    ensures list_after { list.new ≡ take (entry_words * k) list.old ++ (get_or number.now p.0 0 ∷ get_or cut.now p.0 0 ∷ get_or cut.now (p.0 + 1) 0 ∷ via old ∷ via new ∷ []) ++ drop (entry_words * k + entry_words) list.old }
+// A link's number, as an entry of the list has it.
+fn link_number(link: Option<usize>) -> u64
+    requires { IsLink link }
+    ensures { result ≡ link_number link }
 {
-    let i = p.0;
-    let atom = crate::atom::atom_at(number, p);
-    owner[crate::atom::owner_index(atom, v)] = new;
-    let from = via_of(old);
-    let to = via_of(new);
-    crate::label::move_atom(label, from as usize, to as usize, atom);
-    write_entry(list, k, atom, cut[i], cut[i + 1], from, to);
+    link.map_or(meaning::NO_LINK, |l| l as u64)
 }
 
-// One place of a sweep: where the owner at node v is to change from old to new, it does, and the change is entry k of the list.
-// Returns how many entries there are then.
-fn settle(
-    cut: &[u64; 513],
-    number: &[u16; 512],
+// Writes entry k of the list, word by word: by `copy_from_slice` an update takes 3 % more instructions.
+fn write_entry(list: &mut [u64], k: usize, entry: [u64; 5])
+    requires { (entry_words * k + entry_words ≤ length list.old) × (k < 512) }
+    ensures { list.new ≡ take (entry_words * k) list.old ++ entry ++ drop (entry_words * k + entry_words) list.old }
+{
+    for (i, word) in entry.iter().enumerate() {
+        list[5 * k + i] = *word;
+    }
+}
+
+// Over the places from f to below t, node v's owner becomes what `next` makes of the place's lower end and of the owner there. Where that is another,
+// the atom moves from link to link, and the list gets an entry. Returns how many there are.
+// It is lent the hall's parts, and not the hall: `next` looks at the rules while labels and owners are written.
+fn sweep<F: Fn(u64, u16) -> u16>(
+    atoms: &Atoms,
     label: &mut [u64; 512],
     owner: &mut [u16; 8192],
     list: &mut [u64],
-    p: Place,
     v: usize,
-    old: u16,
-    new: u16,
-    k: usize,
+    f: Place,
+    t: Place,
+    next: F,
 ) -> usize
-    requires { (p.0 < 512) × (get_or number.now p.0 0 < 512) × (v < 16) × (entry_words * k + entry_words ≤ length list.old) × (k < 512) × (length owner.old ≡ 8192) }
-    ensures { Settled cut.now number.now p.0 v old new k label.old label.new owner.old owner.new list.old list.new result }
+    requires ready { Ready atoms.now.number owner.old list.old atoms.now.count v f.0 t.0 }
+    requires callable { (q : ℕ) → f.0 ≤ q → q < t.0 → F.pre next (get_or atoms.now.cut q 0) (owner_by owner.old atoms.now.number v q) }
+    ensures { SweptBy (λ q. F.post next (get_or atoms.now.cut q 0) (owner_by owner.old atoms.now.number v q))
+        atoms.now.cut atoms.now.number atoms.now.count v f.0 t.0 (owner_by owner.old atoms.now.number v) label.old label.new owner.old owner.new list.old list.new result }
 {
-    if old == new {
-        return k;
+    let mut k = 0;
+    for p in f.0..t.0.min(512) {
+        let atom = crate::atom::atom_at(&atoms.number, Place(p));
+        let i = atom.owner_index(v);
+        let old = owner[i];
+        let new = next(atoms.cut[p], old);
+        if old != new {
+            owner[i] = new;
+            let from = via_of(old);
+            let to = via_of(new);
+            crate::label::move_atom(label, from, to, atom);
+            write_entry(
+                list,
+                k,
+                [
+                    atom.0 as u64,
+                    atoms.cut[p],
+                    atoms.cut[p + 1],
+                    link_number(from),
+                    link_number(to),
+                ],
+            );
+            k += 1;
+        }
     }
-    change_owner(cut, number, label, owner, list, p, v, old, new, k);
-    k + 1
-}
-
-// The place where a sweep ends: at most 512, which the compiler is told here, so that it leaves the test of `atom_at` out of the sweep.
-fn end_of(t: Place) -> usize
-    requires { t.0 ≤ 512 }
-    ensures { result ≡ t.0 }
-{
-    if 512 < t.0 { 512 } else { t.0 }
+    k
 }
 
 // ---- an insert
 
 // Of an owner and the new rule, mine, the one of higher rank.
+#[tactic(auto, unfolding(crate::specs::Sweep::raised))]
 fn higher(rule: &[u64; 256], owner: u16, mine: u16, rank: u64) -> u16
     requires { (owner ≡ 0 → ⊥) → (0 < owner % 512) × (owner % 512 ≤ 256) }
     ensures { result ≡ raised ipv4 rule.now mine rank owner }
 {
-    if owner == 0 {
-        return mine;
+    if owner == 0 || crate::rule::rank_of(rule[owner as usize % 512 - 1]) < rank {
+        mine
+    } else {
+        owner
     }
-    let i = (owner % 512) as usize - 1;
-    if crate::rule::rank_of(rule[i]) < rank {
-        return mine;
-    }
-    owner
-}
-
-// Over the places from f to below t the new rule, mine, takes node v over from each owner of lower rank. Returns how many changes it listed.
-fn take_over(
-    rule: &[u64; 256],
-    cut: &[u64; 513],
-    number: &[u16; 512],
-    label: &mut [u64; 512],
-    owner: &mut [u16; 8192],
-    list: &mut [u64],
-    n: usize,
-    v: usize,
-    f: Place,
-    t: Place,
-    mine: u16,
-    rank: u64,
-) -> usize
-    requires { (Ready number.now owner.old list.old n v f.0 t.0) × (Numbered owner.old) }
-    ensures { SweptAll cut.now number.now n v f.0 t.0 (owner_by owner.old number.now v) (λ q. raised ipv4 rule.now mine rank (owner_by owner.old number.now v q)) label.old label.new owner.old owner.new list.old list.new result }
-{
-    let end = end_of(t);
-    let mut p = f.0;
-    let mut k: usize = 0;
-    while p < end {
-        let atom = crate::atom::atom_at(number, Place(p));
-        let old = owner[crate::atom::owner_index(atom, v)];
-        let new = higher(rule, old, mine, rank);
-        k = settle(cut, number, label, owner, list, Place(p), v, old, new, k);
-        p += 1;
-    }
-    k
 }
 
 // Takes a rule in, once its checks have passed: its ends are made boundaries, and it takes its node over where it has the highest rank.
-pub fn insert(
-    h: Hall,
-    link: &[u16; 64],
-    rule: &mut [u64; 256],
-    cut: &mut [u64; 513],
-    number: &mut [u16; 512],
-    label: &mut [u64; 512],
-    owner: &mut [u16; 8192],
-    list: &mut [u64],
-    r: u16,
-    x: Rule,
-) -> Updated
-    requires whole { Whole (state_of h link.now rule.old cut.old number.old) label.old owner.old }
-    requires phase_value { (h.phase ≡ 2) × (update_refusal (state_of h link.now rule.old cut.old number.old) (insert r x.link x.prefix x.length x.priority) ≡ none) × (list_room ≤ length list.old) }
-    ensures number_after { state_of result.hall link.now rule.new cut.new number.new
-        ≡ updated (state_of h link.now rule.old cut.old number.old) (insert r x.link x.prefix x.length x.priority) }
-    ensures listed { Listed (state_of h link.now rule.old cut.old number.old)
-        (updated (state_of h link.now rule.old cut.old number.old) (insert r x.link x.prefix x.length x.priority))
-        (node_of (state_of h link.now rule.old cut.old number.old) (insert r x.link x.prefix x.length x.priority))
-        label.new owner.new list.old list.new result.listed }
+// Returns how many entries the list gets.
+pub fn insert(hall: &mut Hall, list: &mut [u64], r: u16, x: Rule) -> u16
+    requires whole { WholeBy hall.old }
+    requires phase { hall.old.plan.phase ≡ Closed }
+    requires passes { update_refusal (state_of hall.old) (insert r x.link x.prefix x.length x.priority) ≡ none }
+    requires room { list_room ≤ length list.old }
+    ensures state { state_of hall.new ≡ updated (state_of hall.old) (insert r x.link x.prefix x.length x.priority) }
+    ensures listed { ListedIn hall.old hall.new (insert r x.link x.prefix x.length x.priority) list.old list.new result }
 {
-    let l = x.link as usize;
-    let v = crate::link::source_of(link[l]);
+    let v = crate::link::source_of(hall.plan.link[x.link as usize]);
     let w = crate::rule::pack(x);
     let low = crate::rule::lower_of(w);
     let high = crate::rule::upper_of(w);
-    let first = crate::atom::make_boundary(cut, number, label, owner, h.atoms as usize, low);
-    let n = crate::atom::make_boundary(cut, number, label, owner, first, high);
-    let f = crate::atom::place_of(cut, n, low);
-    let t = crate::atom::place_of(cut, n, high);
-    let mine = x.link as u16 * 512 + r + 1;
+    crate::atom::make_boundary(hall, low);
+    crate::atom::make_boundary(hall, high);
+    let f = crate::atom::place_of(&hall.atoms, low);
+    let t = crate::atom::place_of(&hall.atoms, high);
+    let mine = owner_of(x.link as usize, r as usize);
     let rank = crate::rule::rank_of(w);
-    let listed = take_over(
-        rule, cut, number, label, owner, list, n, v, f, t, mine, rank,
+    let rule = &hall.rule;
+    let listed = sweep(
+        &hall.atoms,
+        &mut hall.label,
+        &mut hall.owner,
+        list,
+        v,
+        f,
+        t,
+        |_, owner| { higher(rule, owner, mine, rank) },
     );
-    rule[r as usize] = w;
-    Updated {
-        hall: Hall {
-            phase: h.phase,
-            nodes: h.nodes,
-            links: h.links,
-            atoms: n as u16,
-        },
-        listed: listed as u16,
-    }
+    hall.rule[r as usize] = w;
+    listed as u16
 }
 
 // ---- a remove
 
-// Rule w as an owner, 0 for 256.
-fn owner_for(rule: &[u64; 256], w: usize) -> u16
-    requires { w ≤ 256 }
-    ensures { result ≡ owner_for ipv4 rule.now w }
+// A rule as an owner; the table of owners has 0 for none.
+#[tactic(auto, unfolding(crate::specs::Sweep::owner_for))]
+fn owner_for(rule: &[u64; 256], winner: Option<usize>) -> u16
+    requires { IsRule winner }
+    ensures { result ≡ owner_for ipv4 rule.now (number_of winner) }
 {
-    if w == 256 {
-        return 0;
+    match winner {
+        Some(w) => owner_of(crate::rule::link_of(rule[w]), w),
+        None => 0,
     }
-    let l = crate::rule::link_of(rule[w]);
-    (l * 512 + w + 1) as u16
 }
 
 // An owner, or where it is the rule that has gone the best for address a of the gathered ones.
-fn heir(rule: &[u64; 256], among: &[u16; 256], count: usize, gone: u16, a: u64, owner: u16) -> u16
-    requires { (count ≤ 256) × ((j : ℕ) → j < count → get_or among.now j 0 < 256) }
-    ensures { result ≡ heir_of ipv4 rule.now among.now count gone a owner }
+#[tactic(auto, unfolding(crate::specs::Sweep::heir_of))]
+fn heir(rule: &[u64; 256], among: &[u16], gone: u16, a: u64, owner: u16) -> u16
+    requires { (j : ℕ) → j < length among.now → get_or among.now j 0 < 256 }
+    ensures { result ≡ heir_of ipv4 rule.now among.now (length among.now) gone a owner }
 {
     if owner != gone {
         return owner;
     }
-    let w = crate::rule::best_among(rule, among, count, a);
-    owner_for(rule, w)
+    owner_for(rule, crate::rule::best_among(rule, among, a))
 }
 
-// Over the places from f to below t the rule that has gone hands node v on to the best of the gathered ones. Returns how many changes it listed.
-fn hand_on(
-    rule: &[u64; 256],
-    cut: &[u64; 513],
-    number: &[u16; 512],
-    label: &mut [u64; 512],
-    owner: &mut [u16; 8192],
-    list: &mut [u64],
-    n: usize,
-    v: usize,
-    f: Place,
-    t: Place,
-    gone: u16,
-    among: &[u16; 256],
-    count: usize,
-) -> usize
-    requires { (Ready number.now owner.old list.old n v f.0 t.0) × (count ≤ 256) × ((j : ℕ) → j < count → get_or among.now j 0 < 256) }
-    ensures { SweptAll cut.now number.now n v f.0 t.0 (owner_by owner.old number.now v) (λ q. heir_of ipv4 rule.now among.now count gone (get_or cut.now q 0) (owner_by owner.old number.now v q)) label.old label.new owner.old owner.new list.old list.new result }
+// Takes rule r out, once its checks have passed: where it won, the highest rank left wins. Returns how many entries the list gets.
+pub fn remove(hall: &mut Hall, list: &mut [u64], r: u16) -> u16
+    requires whole { WholeBy hall.old }
+    requires phase { hall.old.plan.phase ≡ Closed }
+    requires passes { update_refusal (state_of hall.old) (remove r) ≡ none }
+    requires room { list_room ≤ length list.old }
+    ensures state { state_of hall.new ≡ updated (state_of hall.old) (remove r) }
+    ensures listed { ListedIn hall.old hall.new (remove r) list.old list.new result }
 {
-    let end = end_of(t);
-    let mut p = f.0;
-    let mut k: usize = 0;
-    while p < end {
-        let atom = crate::atom::atom_at(number, Place(p));
-        let old = owner[crate::atom::owner_index(atom, v)];
-        let new = heir(rule, among, count, gone, cut[p], old);
-        k = settle(cut, number, label, owner, list, Place(p), v, old, new, k);
-        p += 1;
-    }
-    k
-}
-
-// Takes rule r out, once its checks have passed: where it won, the highest rank left wins.
-pub fn remove(
-    h: Hall,
-    link: &[u16; 64],
-    rule: &mut [u64; 256],
-    cut: &[u64; 513],
-    number: &[u16; 512],
-    label: &mut [u64; 512],
-    owner: &mut [u16; 8192],
-    list: &mut [u64],
-    r: u16,
-) -> Updated
-    requires whole { Whole (state_of h link.now rule.old cut.now number.now) label.old owner.old }
-    requires phase_value { (h.phase ≡ 2) × (update_refusal (state_of h link.now rule.old cut.now number.now) (remove r) ≡ none) × (list_room ≤ length list.old) }
-    ensures number_after { state_of result.hall link.now rule.new cut.now number.now
-        ≡ updated (state_of h link.now rule.old cut.now number.now) (remove r) }
-    ensures listed { Listed (state_of h link.now rule.old cut.now number.now)
-        (updated (state_of h link.now rule.old cut.now number.now) (remove r))
-        (node_of (state_of h link.now rule.old cut.now number.now) (remove r))
-        label.new owner.new list.old list.new result.listed }
-{
-    let slot = r as usize;
-    let w = rule[slot];
+    let w = hall.rule[r as usize];
     let l = crate::rule::link_of(w);
-    let v = crate::link::source_of(link[l]);
-    let n = h.atoms as usize;
-    let f = crate::atom::place_of(cut, n, crate::rule::lower_of(w));
-    let t = crate::atom::place_of(cut, n, crate::rule::upper_of(w));
-    rule[slot] = 0;
+    let v = crate::link::source_of(hall.plan.link[l]);
+    let f = crate::atom::place_of(&hall.atoms, crate::rule::lower_of(w));
+    let t = crate::atom::place_of(&hall.atoms, crate::rule::upper_of(w));
+    hall.rule[r as usize] = 0;
     let mut among = [0u16; 256];
-    let count = crate::rule::gather(link, rule, v, w, &mut among);
-    let gone = l as u16 * 512 + r + 1;
-    let listed = hand_on(
-        rule, cut, number, label, owner, list, n, v, f, t, gone, &among, count,
+    let gathered = crate::rule::gather(hall, v, w, &mut among);
+    let gone = owner_of(l, r as usize);
+    let rule = &hall.rule;
+    let listed = sweep(
+        &hall.atoms,
+        &mut hall.label,
+        &mut hall.owner,
+        list,
+        v,
+        f,
+        t,
+        |a, owner| { heir(rule, gathered, gone, a, owner) },
     );
-    Updated {
-        hall: h,
-        listed: listed as u16,
-    }
+    listed as u16
 }

@@ -1,11 +1,11 @@
--- Before each record the box came from a fresh one by records, and the output buffer has room for a line.
+-- Before each record the hall came from a fresh one by records.
 use Rattle.std.proofs.Common.{◌-◌, length}
 use Rattle.meaning.specs.Box.{state_of}
 use Rattle.hallcheck.proofs.Between.{Between}
 use Rattle.hallcheck.proofs.print_all.Given as goal
 
-abbrev pub invariant-loop-end : goal.invariant-loop-end
-invariant-loop-end g l = Between l.bytes (state_of l.h l.link l.rule l.cut l.number) l.label l.owner l.list l.out l.at l.place l.end
+abbrev pub invariant-loop-out : goal.invariant-loop-out
+invariant-loop-out g l = Between l.bytes (state_of l.hall) l.hall.label l.hall.owner l.list l.at l.place
 
-abbrev pub decreases-loop-end : goal.decreases-loop-end
-decreases-loop-end g l = length l.bytes - l.at
+abbrev pub decreases-loop-out : goal.decreases-loop-out
+decreases-loop-out g l = length l.bytes - l.at

@@ -1,37 +1,41 @@
--- `labels::atoms_on` meets its contract. The loop's invariant: `n` counts the atoms of the words passed. Assumes nothing.
-use Prim.Native.Nat.{ℕ, ◌+◌, ◌*◌}
+-- `labels::atoms_on` meets its contract: the ones of a link's words are its atoms. Assumes nothing.
+use Prim.Native.Nat.{ℕ, zero, suc, ◌+◌, ◌-◌, ◌*◌, ◌^◌, ◌<◌, ◌≤◌}
 use Rattle.lent.proofs.LabelWords.{count_word}
-use Rattle.meaning.proofs.base.Search.{count_le}
 use Rattle.meaning.specs.Labels.{on, how_many}
 use Rattle.meaning.specs.Search.{count_below}
-use borrow.Author.Rules.{rules}
+use Rattle.std.specs.List.{sum_by}
+use Rattle.std.proofs.lemmas.List.{get_or-drop}
+use Rattle.std.proofs.lemmas.List.Sums.{sum_by_push}
+use Rattle.std.proofs.Math.Seq.{take-suc}
 use borrow.Author.Tests.{lt-ltb, le-ltb}
-use lib.Count.{ones-le}
-use mathlib.Core.Path.{◌≡◌, refl, ap, ◌∙◌}
+use lib.Count.{ones}
+use lib.ListN.{length, get_or, take, drop, length-drop}
+use mathlib.Core.List.{List}
+use mathlib.Core.Path.{◌≡◌, refl, sym, ap, ap₂, ◌∙◌}
+use native.Mathlib.Numerals.{add-one}
 use native.Mathlib.Omega.{arith}
 use Rattle.labels.proofs.atoms_on.Goals as goal
+
+count_words : (label : List ℕ) (l n : ℕ) → ((i : ℕ) → get_or label i 0 < 2 ^ 64) → 8 * l + n ≤ length label
+    → sum_by ones (take n (drop (8 * l) label)) ≡ count_below (64 * n) (on label l)
+unfolding count_below
+count_words label l zero w h = refl
+count_words label l (suc n) w h =
+    let one : get_or (drop (8 * l) label) n 0 ≡ get_or label (8 * l + n) 0 = get_or-drop (8 * l) label n 0 in
+    ap (sum_by ones) (take-suc (drop (8 * l) label) n 0 (rw length-drop (omega arith)))
+    ∙ sum_by_push ones (take n (drop (8 * l) label)) (get_or (drop (8 * l) label) n 0)
+    ∙ ap₂ (λ (x y : ℕ). x + ones y) (count_words label l n w (omega arith)) one
+    ∙ sym (count_word label l n (w (8 * l + n)))
+    ∙ ap (λ (x : ℕ). count_below (64 * x) (on label l)) (add-one n)
 
 pub returns-then-link-ge64 : goal.returns-then-link-ge64
 unfolding how_many
 returns-then-link-ge64 c = rw (le-ltb _ _ c.if-link-ge64.true)
 
-pub loop-i-init : goal.loop-i-init
-unfolding count_below
-loop-i-init c = (search rules, refl)
-
-pub overflow_add-n-in-loop-i : goal.overflow_add-n-in-loop-i
-overflow_add-n-in-loop-i c =
-    let a = c.args in
-    omega (arith, ones-le 64 _ (c.type_inv.s (8 * a.link + c.loop-i.i)).fits, count_le (on a.label.now a.link) (64 * c.loop-i.i))
-
-pub loop-i-preserved : goal.loop-i-preserved
-loop-i-preserved c =
-    let a = c.args in
-    (search rules, omega (arith, count_word a.label.now a.link c.loop-i.i (c.type_inv.s (8 * a.link + c.loop-i.i)).fits))
-
 pub returns : goal.returns
 unfolding how_many
 returns c =
     let a = c.args in
-    let e : c.loop-i.i ≡ 8 = omega arith in
-    rw (lt-ltb _ _ c.if-link-ge64.false) (c.loop-i.invariant.1 ∙ ap (λ (x : ℕ). count_below (64 * x) (on a.label.now a.link)) e)
+    let e : 8 * a.link + 8 - 8 * a.link ≡ 8 = omega arith in
+    rw (lt-ltb _ _ c.if-link-ge64.false)
+    (c.ones_of.ensures ∙ ap (λ (n : ℕ). sum_by ones (take n (drop (8 * a.link) a.label.now))) e ∙ count_words a.label.now a.link 8 c.fits-label (omega arith))

@@ -35,10 +35,6 @@ any_true P (suc n) i l e = go (any_true P n i) (ℕ_discrete i n)
     go f (yes q) = ap (λ (b : Bool). any_below n P || b) (sym (ap P q) ∙ e) ∙ or-true (any_below n P)
     go f (no q) = ap (λ (b : Bool). b || P n) (f (omega arith) e)
 
-pub any_none : (P : ℕ → Bool) → any_below 0 P ≡ false
-unfolding any_below
-any_none P = refl
-
 pub any_more : (P : ℕ → Bool) (n : ℕ) → any_below (n + 1) P ≡ any_below n P || P n
 unfolding any_below
 any_more P n = ap (λ (x : ℕ). any_below x P) (add-one n)

@@ -11,19 +11,21 @@ use lib.ListN.{length, set}
 use borrow.Author.Tests.{eqb-true, eq-eqb, lt-ltb, le-ltb, not-false}
 use Rattle.meaning.specs.declared.Answer.{Answer}
 use Rattle.meaning.specs.declared.Answer.TheVariants.{End, Refused}
-use Rattle.meaning.specs.declared.Read.{Read}
-use Rattle.meaning.specs.declared.Read.TheVariants.{End as Nothing}
+use Rattle.meaning.specs.declared.Refusal.{Refusal}
+use Rattle.meaning.specs.declared.Refusal.TheVariants.{ShortList}
 use Rattle.meaning.specs.declared.Record.{Record}
 use Rattle.meaning.specs.Search.{pick}
+use Rattle.meaning.specs.declared.hall.Phase.TheVariants.{Closed}
 use Rattle.meaning.specs.Hall.{State}
 use Rattle.meaning.specs.Rule.{rule_word}
 use Rattle.meaning.specs.Atoms.{with_cut}
 use Rattle.meaning.specs.Questions.{by_address}
-use Rattle.meaning.specs.Records.{record_of, read_of, Update, insert, remove, Question, Sort, update, question, sort_of, phase_of}
+use Rattle.meaning.specs.Records.{record_of, Read, no_more, read_of, Update, insert, remove, Question, Sort, update, question, sort_of, phase_of}
 use Rattle.meaning.specs.Step.{list_room, Done, update_refusal, with_rule, inserted, updated, node_of, changes, question_refusal, refusal, turned_by, leaves, writes, only, answers, accepted, taken, step_for, step_with, step_of}
 use Rattle.meaning.specs.declared.Record.TheVariants.{Close}
 use Rattle.meaning.specs.Changes.{entries_at}
 use Rattle.meaning.specs.Run.{Came}
+use Rattle.meaning.proofs.base.Stages.{stage_once}
 use Rattle.meaning.proofs.base.Order.{clash, le_or_lt}
 use Rattle.meaning.proofs.records.Checks.{when_none}
 use Rattle.meaning.proofs.records.Steps.{Stepped, short, ended, unread, turned, took, stepped}
@@ -57,7 +59,7 @@ any_room m room room' s f = rw (same_test room room' list_room f)
 -- the answers of a step that leaves all as it was before a record is taken
 pub data Unmoved : Answer → Type 0 where
   no_byte : Unmoved End
-  refused : (k : ℕ) → Unmoved (Refused k)
+  refused : (k : Refusal) → Unmoved (Refused k)
 
 -- where a record is turned away alike, what holds of both refusals and of both acceptances holds of both steps
 module _ (R : Done → Done → Type 0) (m n : State) (room : ℕ) (s : List ℕ) where
@@ -66,23 +68,23 @@ module _ (R : Done → Done → Type 0) (m n : State) (room : ℕ) (s : List ℕ
   unfolding step_of step_with step_for taken
   both_step f e g = go (ltb room list_room) (read_of s) (begins s)
     where
-      last : (k : ℕ) (o : Option ℕ) → turned_by n (sorted s) ≡ o → R (taken (by_address m) m k (sorted s) o) (taken (by_address n) n k (sorted s) o)
+      last : (k : ℕ) (o : Option Refusal) → turned_by n (sorted s) ≡ o → R (taken (by_address m) m k (sorted s) o) (taken (by_address n) n k (sorted s) o)
       last k (some j) q = f k (Refused j) (refused j)
       last k none q = g k q
 
       go : (a : Bool) (x : Read) → Begins s x
-          → R (pick a (only m 0 (Refused 0)) (step_for (by_address m) m x)) (pick a (only n 0 (Refused 0)) (step_for (by_address n) n x))
-      go true x b = f 0 (Refused 0) (refused 0)
+          → R (pick a (only m 0 (Refused ShortList)) (step_for (by_address m) m x)) (pick a (only n 0 (Refused ShortList)) (step_for (by_address n) n x))
+      go true x b = f 0 (Refused ShortList) (refused ShortList)
       go false x (nothing h) = f 0 End no_byte
       go false x (without k h) = f 0 (Refused k) (refused k)
       go false x (whole h) = rw e (last _ _ refl)
 
 -- ---- "end"
 
-reads_nothing : (s : List ℕ) → read_of s ≡ Nothing → length s ≡ 0
+reads_nothing : (s : List ℕ) → read_of s ≡ no_more → length s ≡ 0
 reads_nothing s e = go (read_of s) (begins s) e
   where
-    go : (x : Read) → Begins s x → x ≡ Nothing → length s ≡ 0
+    go : (x : Read) → Begins s x → x ≡ no_more → length s ≡ 0
     go x (nothing h) e = h
     go x (without k h) e = clash cc
     go x (whole h) e = clash cc
@@ -120,7 +122,7 @@ module _ (m : State) (room : ℕ) (s : List ℕ) where
 
       passed : (k : ℕ) → turned_by m (sorted s) ≡ none → refused_by (accepted (by_address m) m k (sorted s)).answer ≡ none
           → ((accepted (by_address m) m k (sorted s)).answer ≡ End → ⊥) → Took m s (accepted (by_address m) m k (sorted s))
-      passed k q e f = let y = when_none _ _ _ q in record { bytes = k; phase = eqb-true _ _ (not-false _ y.0); passes = y.1; is = refl }
+      passed k q e f = let y = when_none _ _ _ q in record { bytes = k; phase = stage_once (eqb-true _ _ (not-false _ y.0)); passes = y.1; is = refl }
 
 -- ---- a question that is not refused
 
@@ -152,7 +154,7 @@ module _ (m : State) (room : ℕ) (s : List ℕ) (i : ℕ) (A : Accepts m room s
   took_it : Took m s (step_of m room s)
   took_it = accepts m room s (ap refused_by A.ok ∙ (unfold refused_by in refl)) (λ e. clash (cc A.ok))
 
-  pub closed_hall : m.plan.phase ≡ 2
+  pub closed_hall : m.plan.phase ≡ Closed
   unfolding phase_of
   closed_hall = took_it.phase ∙ ap phase_of A.record_is
 

@@ -10,6 +10,7 @@ use Prim.Native.Nat.{ℕ, ◌+◌, ◌≤◌, ◌<◌}
 use native.Mathlib.Omega.{arith}
 use lib.ListN.{get_or, set}
 use borrow.Author.Tests.{eqb-false, ne_eqb, not-true}
+use Rattle.meaning.specs.declared.hall.Phase.TheVariants.{Closed}
 use Rattle.meaning.specs.Hall.{top, Plan, State, source_of}
 use Rattle.meaning.specs.Rule.{rule_word, lower, upper}
 use Rattle.meaning.specs.Winner.{rule_at, winner, link_for, next_at, node_for}
@@ -113,7 +114,7 @@ module _ (m : State) (c : Came m) where
   Spreads u = (a x y : ℕ) → Lists a x y (entries_at m (updated m u) (node_of m u) (changes m u)) ↔ Changes m (updated m u) (node_of m u) a x y
 
   -- an insert first makes its ends boundaries, which changes no winner
-  insert_spreads : (r l p n t : ℕ) → Sized m.width l p t → m.plan.phase ≡ 2 → update_refusal m (insert r l p n t) ≡ none → Spreads (insert r l p n t)
+  insert_spreads : (r l p n t : ℕ) → Sized m.width l p t → m.plan.phase ≡ Closed → update_refusal m (insert r l p n t) ≡ none → Spreads (insert r l p n t)
   unfolding listed node_of updated
   insert_spreads r l p n t F ph ok =
       spread m (inserted m r w) (source_of m l) after.cuts
@@ -138,7 +139,7 @@ module _ (m : State) (c : Came m) where
       after : Sound (inserted m r w)
       after = keeps_update m (insert r l p n t) S (unfold FitsUpdate in F) ph ok
 
-  remove_spreads : (r : ℕ) → m.plan.phase ≡ 2 → update_refusal m (remove r) ≡ none → Spreads (remove r)
+  remove_spreads : (r : ℕ) → m.plan.phase ≡ Closed → update_refusal m (remove r) ≡ none → Spreads (remove r)
   unfolding listed node_of updated
   remove_spreads r ph ok =
       spread m (with_rule m r 0) v after.cuts
@@ -151,7 +152,7 @@ module _ (m : State) (c : Came m) where
       after : Sound (with_rule m r 0)
       after = keeps_update m (remove r) (sound m c) (unfold FitsUpdate in tt) ph ok
 
-  spreads : (u : Update) → FitsUpdate m.width u → m.plan.phase ≡ 2 → update_refusal m u ≡ none → Spreads u
+  spreads : (u : Update) → FitsUpdate m.width u → m.plan.phase ≡ Closed → update_refusal m u ≡ none → Spreads u
   unfolding FitsUpdate
   spreads (insert r l p n t) F = insert_spreads r l p n t F
   spreads (remove r) F = remove_spreads r

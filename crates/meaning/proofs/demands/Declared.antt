@@ -1,5 +1,5 @@
 -- The hall and the links after any records are those that the accepted hall and link records declared. Assumes nothing.
-use mathlib.Core.Path.{◌≡◌, refl, ap, ◌∙◌}
+use mathlib.Core.Path.{sym, ◌≡◌, refl, ap, ◌∙◌}
 use mathlib.Core.Logic.{◌↔◌, ◌⊎◌, inl, inr, ⊎_elim}
 use mathlib.Core.Option.{none}
 use mathlib.Core.List.{List}
@@ -13,13 +13,15 @@ use borrow.Author.Tests.{eqb-true, not-false}
 use Rattle.meaning.specs.declared.Answer.{Answer}
 use Rattle.meaning.specs.declared.Answer.TheVariants.{Ok}
 use Rattle.meaning.specs.declared.Record.{Record}
-use Rattle.meaning.specs.Hall.{Plan, State, empty, source_of, end_of, link_word}
+use Rattle.meaning.specs.declared.hall.Phase.TheVariants.{Closed}
+use Rattle.meaning.specs.Hall.{stage, Plan, State, empty, source_of, end_of, link_word}
 use Rattle.meaning.specs.Atoms.{with_cut}
 use Rattle.meaning.specs.Questions.{by_address}
 use Rattle.meaning.specs.Records.{SetUp, hall, link, close, Update, insert, remove, Sort, set_up, update, question, sort_of, set_up_phase, phase_of}
 use Rattle.meaning.specs.Step.{Done, set_up_refusal, planned, with_rule, inserted, updated, refusal, turned_by, leaves, only, answers, accepted, step_of}
 use Rattle.meaning.specs.Run.{Came, start, more}
 use Rattle.meaning.specs.declared.Record.TheVariants.{Hall, Link, Close}
+use Rattle.meaning.proofs.base.Stages.{stage_once}
 use Rattle.meaning.proofs.records.Fields.{FitsSetUp, Fits, fits}
 use Rattle.meaning.proofs.records.Sorts.{record_for, sorted_as, before_close}
 use Rattle.meaning.proofs.records.Checks.{when_none, clear_link}
@@ -54,7 +56,7 @@ module _ (m : State) (s : List ℕ) where
 
   plan_taken : (n : ℕ) (r : Sort) → sorted s ≡ r → turned_by m r ≡ none → PlanFork m s (accepted (by_address m) m n r)
   unfolding PlanFork accepted answers refusal leaves phase_of
-  plan_taken n (set_up u) e q = let y = when_none _ _ _ q in inl (u, record { is = e; ok = refl; phase = eqb-true _ _ (not-false _ y.0); passes = y.1; plan = refl })
+  plan_taken n (set_up u) e q = let y = when_none _ _ _ q in inl (u, record { is = e; ok = refl; phase = stage_once (eqb-true _ _ (not-false _ y.0)); passes = y.1; plan = refl })
   plan_taken n (update u) e q = inr (update_plan u)
   plan_taken n (question x) e q = inr refl
 
@@ -87,13 +89,13 @@ module _ (m : State) (room : ℕ) (s : List ℕ) where
 
 -- there are n nodes
 abbrev Nodes : Plan → ℕ → Type 0
-Nodes p n = (0 < p.phase) × (p.nodes ≡ n)
+Nodes p n = (0 < stage p.phase) × (p.nodes ≡ n)
 
 -- a set-up record brings the nodes in, or there are those that there were
 module _ (p : Plan) (n : ℕ) where
   nodes_kept : (u : SetUp) → p.phase ≡ set_up_phase u → Nodes p n → Nodes (planned p u) n
   unfolding planned set_up_phase
-  nodes_kept (hall k) ph x = absurd (omega (arith, x.0))
+  nodes_kept (hall k) ph x = absurd (omega (arith, ap stage ph, x.0))
   nodes_kept (link a k e) ph x = x
   nodes_kept close ph x = (omega arith, x.1)
 
@@ -101,10 +103,10 @@ module _ (p : Plan) (n : ℕ) where
   unfolding planned set_up_phase
   nodes_from (hall k) ph x = inl (ap hall x.1)
   nodes_from (link a k e) ph x = inr x
-  nodes_from close ph x = inr (omega arith, x.1)
+  nodes_from close ph x = inr (omega (arith, ap stage ph), x.1)
 
 -- THE LAW: there are n nodes exactly when a hall of n nodes was accepted
-pub has_nodes : (m : State) (c : Came m) (n : ℕ) → HasNodes c n ↔ ((0 < m.plan.phase) × (m.plan.nodes ≡ n))
+pub has_nodes : (m : State) (c : Came m) (n : ℕ) → HasNodes c n ↔ ((0 < stage m.plan.phase) × (m.plan.nodes ≡ n))
 unfolding HasNodes PlanFork record_for
 has_nodes m start n = (λ h. absurd h, λ x. absurd (unfold empty in not-suc-le-zero x.0))
 has_nodes m (more {m = o} room s c) n = let was = has_nodes o c n in (there was.0 (plan_fork o s room), back was.1 (plan_fork o s room))
@@ -122,24 +124,24 @@ has_nodes m (more {m = o} room s c) n = let was = has_nodes o c n in (there was.
 -- ---- the close
 
 module _ (p : Plan) where
-  close_from : (u : SetUp) → p.phase ≡ set_up_phase u → (planned p u).phase ≡ 2 → u ≡ close
+  close_from : (u : SetUp) → p.phase ≡ set_up_phase u → (planned p u).phase ≡ Closed → u ≡ close
   unfolding planned set_up_phase
-  close_from (hall k) ph x = absurd (omega arith)
-  close_from (link a k e) ph x = absurd (omega arith)
+  close_from (hall k) ph x = absurd (omega (arith, ap stage x))
+  close_from (link a k e) ph x = absurd (omega (arith, ap stage (sym ph ∙ x)))
   close_from close ph x = refl
 
 -- THE LAW: the hall is closed exactly when a close was accepted
-pub has_close : (m : State) (c : Came m) → HasClose c ↔ (m.plan.phase ≡ 2)
+pub has_close : (m : State) (c : Came m) → HasClose c ↔ (m.plan.phase ≡ Closed)
 unfolding HasClose PlanFork record_for
-has_close m start = (λ h. absurd h, λ e. absurd (unfold empty in omega arith))
+has_close m start = (λ h. absurd h, λ e. absurd (unfold empty in omega (arith, ap stage e)))
 has_close m (more {m = o} room s c) = let was = has_close o c in (there was.0 (plan_fork o s room), back was.1 (plan_fork o s room))
   where
-    there : (HasClose c → o.plan.phase ≡ 2) → PlanFork o s (step_of o room s) → Takes o room s Close ⊎ HasClose c → (then o room s).plan.phase ≡ 2
+    there : (HasClose c → o.plan.phase ≡ Closed) → PlanFork o s (step_of o room s) → Takes o room s Close ⊎ HasClose c → (then o room s).plan.phase ≡ Closed
     there was f (inl T) = rw (sets_it o room s Close T close (unfold sort_of in refl)).plan (unfold planned in refl)
-    there was (inl (u, x)) (inr h) = absurd (omega (arith, before_close u, x.phase, was h))
+    there was (inl (u, x)) (inr h) = absurd (omega (arith, before_close u, ap stage x.phase, ap stage (was h)))
     there was (inr e) (inr h) = rw e (was h)
 
-    back : (o.plan.phase ≡ 2 → HasClose c) → PlanFork o s (step_of o room s) → (then o room s).plan.phase ≡ 2 → Takes o room s Close ⊎ HasClose c
+    back : (o.plan.phase ≡ Closed → HasClose c) → PlanFork o s (step_of o room s) → (then o room s).plan.phase ≡ Closed → Takes o room s Close ⊎ HasClose c
     back was (inl (u, x)) h = inl (rw (close_from o.plan u x.phase (rw x.plan at h)) at (takes_it o room s x))
     back was (inr e) h = inr (was (rw e at h))
 

@@ -13,8 +13,11 @@ use Rattle.meaning.specs.declared.Answer.{Answer}
 use Rattle.meaning.specs.declared.Answer.TheVariants.{End, Refused, Ok, Changed, Loop, NoLoop, Went, Yes, No, Tally}
 use Rattle.meaning.specs.declared.Record.{Record}
 use Rattle.meaning.specs.declared.Record.TheVariants.{Hall, Link, Close, Insert, Remove, Loop as AskLoop, Fate as AskFate, Reach as AskReach, Tally as AskTally}
+use Rattle.meaning.specs.declared.Refusal.{Refusal}
+use Rattle.meaning.specs.Answers.{number_of}
 use Rattle.meaning.specs.Search.{count_below}
-use Rattle.meaning.specs.Hall.{top, State, fresh, source_of, end_of}
+use Rattle.meaning.specs.declared.hall.Phase.TheVariants.{Closed}
+use Rattle.meaning.specs.Hall.{top, stage, State, fresh, source_of, end_of}
 use Rattle.meaning.specs.Rule.{live, link_of, length_of, rank, lower, span}
 use Rattle.meaning.specs.Winner.{rule_at, winner, next_at}
 use Rattle.meaning.specs.Labels.{on, labels_of}
@@ -98,7 +101,7 @@ checks m room (kind ∷ body) =
 -- the number that an answer refuses by
 unfoldable pub refused_by : Answer → Option ℕ
 refused_by End = none
-refused_by (Refused k) = some k
+refused_by (Refused k) = some (number_of k)
 refused_by Ok = none
 refused_by (Changed n) = none
 refused_by (Loop a v) = none
@@ -124,7 +127,7 @@ pub record Demand1 : Type 0 where
   pub no_other : (m : State) (room : ℕ) (s : List ℕ) (o p : Option ℕ) → Outcome (checks m room s) o → Outcome (checks m room s) p → o ≡ p
   pub end : (m : State) (room : ℕ) (s : List ℕ) → ((step_of m room s).answer ≡ End) ↔ ((5 * 512 ≤ room) × (length s ≡ 0))
   -- "with rules, atoms and labels as they stood"
-  pub stands : (m : State) (list s : List ℕ) (k : ℕ) → (step_of m (length list) s).answer ≡ Refused k → Stands m list (left_of m list s)
+  pub stands : (m : State) (list s : List ℕ) (k : Refusal) → (step_of m (length list) s).answer ≡ Refused k → Stands m list (left_of m list s)
 
 -- ---- demand 2
 
@@ -183,8 +186,8 @@ pub record Demand2 : Type 0 where
   -- "IPv4": the addresses are those that four bytes can say
   pub addresses : {m : State} → Came m → top m ≡ 256 ^ 4
   -- "after any updates": the hall and the links are those declared; what is live is what was inserted and not removed since, with its parts
-  pub hall_is : {m : State} (c : Came m) (n : ℕ) → HasNodes c n ↔ ((0 < m.plan.phase) × (m.plan.nodes ≡ n))
-  pub close_is : {m : State} (c : Came m) → HasClose c ↔ (m.plan.phase ≡ 2)
+  pub hall_is : {m : State} (c : Came m) (n : ℕ) → HasNodes c n ↔ ((0 < stage m.plan.phase) × (m.plan.nodes ≡ n))
+  pub close_is : {m : State} (c : Came m) → HasClose c ↔ (m.plan.phase ≡ Closed)
   pub link_is : {m : State} (c : Came m) (l a k e : ℕ) → HasLink c l a k e → (l < m.plan.links) × (source_of m l ≡ a) × (end_of m l ≡ k * 256 + e)
   pub linked : {m : State} (c : Came m) (l : ℕ) → l < m.plan.links → (a k e : ℕ) × HasLink c l a k e
   pub rules : {m : State} (c : Came m) (i l p n t : ℕ) → InForce c i l p n t ↔ Stored m i l p n t
@@ -223,7 +226,7 @@ pub record SameRule (m n : State) (i : ℕ) : Type 0 where
 -- two histories on the same closed hall and links that end with the same live rules
 pub record Twins (m n : State) : Type 0 where
   pub came : Came m × Came n
-  pub closed : (m.plan.phase ≡ 2) × (n.plan.phase ≡ 2)
+  pub closed : (m.plan.phase ≡ Closed) × (n.plan.phase ≡ Closed)
   pub nodes : m.plan.nodes ≡ n.plan.nodes
   pub links : m.plan.links ≡ n.plan.links
   pub source : (l : ℕ) → l < m.plan.links → source_of m l ≡ source_of n l

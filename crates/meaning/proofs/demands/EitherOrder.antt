@@ -7,6 +7,7 @@ use Prim.Native.Nat.{ℕ, zero, suc, ◌≤◌, ◌<◌}
 use native.Mathlib.Omega.{arith}
 use lib.ListN.{get_or}
 use lib.Seq.{ext_get_or, set_comm}
+use Rattle.meaning.specs.declared.hall.Phase.TheVariants.{Closed}
 use Rattle.meaning.specs.Hall.{top, Plan, State}
 use Rattle.meaning.specs.Step.{step_of}
 use Rattle.meaning.specs.Run.{Came, more}
@@ -138,7 +139,7 @@ module _ (m : State) (first second first' second' : ℕ) (s t : List ℕ) (i j :
   same_twins : Twins x y
   same_twins =
       let A = same_alike in
-      let ph : x.plan.phase ≡ 2 = ap (λ (p : Plan). p.phase) (stores _ second t j two).plan ∙ closed_hall _ second t j two in
+      let ph : x.plan.phase ≡ Closed = ap (λ (p : Plan). p.phase) (stores _ second t j two).plan ∙ closed_hall _ second t j two in
       twins x y came_x came_y ph A.plan A.rule
 
 pub swapped_twins : {x y : State} → EitherOrder x y → Twins x y

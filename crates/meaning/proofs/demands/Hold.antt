@@ -9,6 +9,7 @@ use native.Mathlib.Omega.{arith}
 use lib.Dec.{ltb}
 use lib.ListN.{length}
 use borrow.Author.Tests.{ltb-true, lt-ltb, leb-false}
+use Rattle.meaning.specs.declared.Refusal.{Refusal}
 use Rattle.meaning.specs.declared.Answer.TheVariants.{Refused, Loop, NoLoop, Went, Yes, No}
 use Rattle.meaning.specs.Search.{pick, lowest_below}
 use Rattle.meaning.specs.Hall.{top, State, source_of, end_of}
@@ -46,7 +47,7 @@ use Rattle.meaning.proofs.base.Order.{clash}
 
 -- ---- demand 1
 
-stood : (m : State) (list s : List ℕ) (k : ℕ) → (step_of m (length list) s).answer ≡ Refused k → Stands m list (left_of m list s)
+stood : (m : State) (list s : List ℕ) (k : Refusal) → (step_of m (length list) s).answer ≡ Refused k → Stands m list (left_of m list s)
 stood m list s k e =
     let q = quiet_left m list s (ap is_ok e ∙ (unfold is_ok in refl)) in
     record { state = ap (λ (x : Left). x.state) q; label = ap (λ (x : Left). x.label) q; owner = ap (λ (x : Left). x.owner) q; lent = ap (λ (x : Left). x.list) q }

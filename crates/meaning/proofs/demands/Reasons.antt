@@ -12,16 +12,21 @@ use lib.ListN.{length}
 use borrow.Author.Tests.{ltb-true, ltb-false, leb-true, leb-false, eqb-true, eq-eqb, ne_eqb, not-false, lt-ltb, le-leb}
 use Rattle.meaning.specs.declared.Answer.TheVariants.{End, Refused}
 use Rattle.meaning.specs.declared.Record.{Record}
-use Rattle.meaning.specs.declared.Read.TheVariants.{Refused as Unread, Got}
+use Rattle.std.specs.Prelude.{Err}
+use Rattle.meaning.specs.declared.Refusal.{Refusal}
+use Rattle.meaning.specs.declared.Refusal.TheVariants.{ShortList, UnknownKind, CutOff, OutOfOrder, NoNode, NoLink, LinksFull, NoEnd, NoRule, RuleLive, RuleNotLive, NoPrefix, Tie, CutsFull}
+use Rattle.meaning.specs.Answers.{number_of}
 use Rattle.meaning.specs.Search.{pick, lowest_below}
-use Rattle.meaning.specs.Hall.{top, State, source_of}
+use Rattle.meaning.specs.declared.hall.Phase.{Phase}
+use Rattle.meaning.specs.Hall.{top, stage, State, source_of}
 use Rattle.meaning.specs.Rule.{rule_word, live, rank, lower, upper, span}
 use Rattle.meaning.specs.Winner.{rule_at, node_for}
 use Rattle.meaning.specs.Questions.{loops_at, circle_at, some_node, loop_from, reaches_at, reach_from, asked, by_address}
-use Rattle.meaning.specs.Records.{is_kind, body_of, record_of, read_of, Question, loop, fate, reach, tally, Sort, set_up, update, question, sort_of, phase_of}
+use Rattle.meaning.specs.Records.{is_kind, body_of, record_of, got, read_of, Question, loop, fate, reach, tally, Sort, set_up, update, question, sort_of, phase_of}
 use Rattle.meaning.specs.Step.{list_room, when, set_up_refusal, ragged, clashes, added, update_refusal, question_refusal, refusal, turned_by, only, answers, accepted, taken, step_for, step_with, step_of}
 use Rattle.meaning.specs.Run.{Came}
 use Rattle.meaning.specs.declared.Record.TheVariants.{Hall, Link, Close, Insert, Remove, Loop as AskLoop, Fate as AskFate, Reach as AskReach, Tally as AskTally}
+use Rattle.meaning.proofs.base.Stages.{stage_once}
 use Rattle.meaning.proofs.base.Order.{le_or_lt}
 use Rattle.meaning.proofs.rules.Words.{RuleFits, link_of_lem, rank_of, lower_of, upper_of, within_top}
 use Rattle.meaning.proofs.records.Fields.{FitsUpdate, Fits, fits}
@@ -47,6 +52,9 @@ le_test a b = (leb-true a b, le-leb a b)
 eq_test : (a b : ℕ) → Test (eqb a b) (a ≡ b)
 eq_test a b = (eqb-true a b, eq-eqb a b)
 
+phase_test : (p q : Phase) → Test (eqb (stage p) (stage q)) (p ≡ q)
+phase_test p q = (λ e. stage_once (eqb-true _ _ e), λ e. eq-eqb _ _ (ap stage e))
+
 dead_test : (t : Bool) → Test (not t) (t ≡ false)
 dead_test true = (λ e. absurd (true≢false (sym e)), λ e. absurd (true≢false e))
 dead_test false = (λ e. refl, λ e. refl)
@@ -67,9 +75,14 @@ none_left : Outcome [] none
 unfolding Outcome
 none_left = refl
 
+-- a refusal by its number
+abbrev numbered : Option Refusal → Option ℕ
+numbered none = none
+numbered (some k) = some (number_of k)
+
 -- a check that asks P by the test t, and then the others
 module _ (P : Type 0) (cs : List Reason) where
-  first : (t : Bool) (k : ℕ) (o : Option ℕ) → Test t P → (t ≡ false → Outcome cs o) → Outcome (check k P ∷ cs) (when t k o)
+  first : (t : Bool) (k : Refusal) (o : Option Refusal) → Test t P → (t ≡ false → Outcome cs (numbered o)) → Outcome (check (number_of k) P ∷ cs) (numbered (when t k o))
   unfolding Outcome when
   first true k o h f = inl (h.0 refl, refl)
   first false k o h f = inr (λ x. true≢false (sym (h.1 x)), f refl)
@@ -138,30 +151,30 @@ module _ (m : State) (c : Came m) where
         (λ h. omega (arith, ltb-true 512 (m.atoms.count + added m w) h), λ h. lt-ltb 512 (m.atoms.count + added m w) (omega arith))
 
   -- THE LAW: the checks of a kind, in their order
-  kind_outcome : (r : Record) → Fits m.width (sort_of r) → Outcome (checks_of m r) (refusal m (sort_of r))
+  kind_outcome : (r : Record) → Fits m.width (sort_of r) → Outcome (checks_of m r) (numbered (refusal m (sort_of r)))
   unfolding sort_of refusal set_up_refusal update_refusal question_refusal ragged checks_of Fits FitsUpdate
-  kind_outcome (Hall n) f = first _ _ _ 4 none (or_test _ _ _ _ (eq_test n 0) (lt_test 16 n)) (λ z. none_left)
+  kind_outcome (Hall n) f = first _ _ _ NoNode none (or_test _ _ _ _ (eq_test n 0) (lt_test 16 n)) (λ z. none_left)
   kind_outcome (Link s d e) f =
-      first _ _ _ 6 _ (le_test 64 m.plan.links) (λ z.
-      first _ _ _ 4 _ (le_test m.plan.nodes s) (λ z.
-      first _ _ _ 7 _ (or_test _ _ _ _ (lt_test 2 d) (and_test _ _ _ _ (eq_test d 2) (not_test _ _ (eq_test e 0)))) (λ z.
-      first _ _ _ 4 none (and_test _ _ _ _ (eq_test d 0) (le_test m.plan.nodes e)) (λ z. none_left))))
+      first _ _ _ LinksFull _ (le_test 64 m.plan.links) (λ z.
+      first _ _ _ NoNode _ (le_test m.plan.nodes s) (λ z.
+      first _ _ _ NoEnd _ (or_test _ _ _ _ (lt_test 2 d) (and_test _ _ _ _ (eq_test d 2) (not_test _ _ (eq_test e 0)))) (λ z.
+      first _ _ _ NoNode none (and_test _ _ _ _ (eq_test d 0) (le_test m.plan.nodes e)) (λ z. none_left))))
   kind_outcome Close f = none_left
   kind_outcome (Insert r l p n t) F =
-      first _ _ _ 8 _ (lt_test 255 r) (λ a.
-      first _ _ _ 9 _ (λ x. x, λ x. x) (λ b.
-      first _ _ _ 5 _ (le_test m.plan.links l) (λ d.
-      first _ _ _ 11 _ (or_test _ _ _ _ (lt_test m.width n) (not_test _ _ (eq_test (p % span m.width n) 0))) (λ e.
+      first _ _ _ NoRule _ (lt_test 255 r) (λ a.
+      first _ _ _ RuleLive _ (λ x. x, λ x. x) (λ b.
+      first _ _ _ NoLink _ (le_test m.plan.links l) (λ d.
+      first _ _ _ NoPrefix _ (or_test _ _ _ _ (lt_test m.width n) (not_test _ _ (eq_test (p % span m.width n) 0))) (λ e.
       let x = or_neither (ltb m.width n) (not (eqb (p % span m.width n) 0)) e in
       let R : RuleFits m.width l p n t =
       record { wide = (sound m c).wide; link = omega (arith, leb-false m.plan.links l d, (sound m c).laid.few); prefix = F.prefix; long = ltb-false m.width n x.0; priority = F.priority } in
-      first _ _ _ 12 _ (tie_test l p n t R) (λ g.
-      first _ _ _ 13 none (inner_test l p n t R (eqb-true _ 0 (not-false _ x.1))) (λ z. none_left))))))
-  kind_outcome (Remove r) f = first _ _ _ 8 _ (lt_test 255 r) (λ z. first _ _ _ 10 none (dead_test (live (rule_at m r))) (λ z. none_left))
+      first _ _ _ Tie _ (tie_test l p n t R) (λ g.
+      first _ _ _ CutsFull none (inner_test l p n t R (eqb-true _ 0 (not-false _ x.1))) (λ z. none_left))))))
+  kind_outcome (Remove r) f = first _ _ _ NoRule _ (lt_test 255 r) (λ z. first _ _ _ RuleNotLive none (dead_test (live (rule_at m r))) (λ z. none_left))
   kind_outcome AskLoop f = none_left
-  kind_outcome (AskFate v a) f = first _ _ _ 4 none (le_test m.plan.nodes v) (λ z. none_left)
-  kind_outcome (AskReach v w) f = first _ _ _ 4 _ (le_test m.plan.nodes v) (λ z. first _ _ _ 4 none (le_test m.plan.nodes w) (λ z. none_left))
-  kind_outcome (AskTally v) f = first _ _ _ 4 none (le_test m.plan.nodes v) (λ z. none_left)
+  kind_outcome (AskFate v a) f = first _ _ _ NoNode none (le_test m.plan.nodes v) (λ z. none_left)
+  kind_outcome (AskReach v w) f = first _ _ _ NoNode _ (le_test m.plan.nodes v) (λ z. first _ _ _ NoNode none (le_test m.plan.nodes w) (λ z. none_left))
+  kind_outcome (AskTally v) f = first _ _ _ NoNode none (le_test m.plan.nodes v) (λ z. none_left)
 
 -- ---- a step's checks
 
@@ -194,7 +207,7 @@ module _ (m : State) where
 
   -- the number that a step refuses by, as one chain of tests
   refused_is : (room kind : ℕ) (body : List ℕ) → refused_by (step_of m room (kind ∷ body)).answer
-      ≡ when (ltb room list_room) 0 (when (not (is_kind kind)) 1 (when (ltb (length (kind ∷ body)) (1 + body_of kind)) 2 (turned_by m (sort_of (record_of (kind ∷ body))))))
+      ≡ numbered (when (ltb room list_room) ShortList (when (not (is_kind kind)) UnknownKind (when (ltb (length (kind ∷ body)) (1 + body_of kind)) CutOff (turned_by m (sort_of (record_of (kind ∷ body)))))))
   unfolding step_of step_with step_for read_of taken only accepted refused_by when
   refused_is room kind body = rw (ne_eqb (length (kind ∷ body)) 0 (λ e. omega arith)) (go (ltb room list_room) (not (is_kind kind)) (ltb (length (kind ∷ body)) (1 + body_of kind)))
     where
@@ -204,22 +217,22 @@ module _ (m : State) where
       n : ℕ
       n = 1 + body_of kind
 
-      last : (o : Option ℕ) → refused_by (taken (by_address m) m n (sort_of r) o).answer ≡ o
+      last : (o : Option Refusal) → refused_by (taken (by_address m) m n (sort_of r) o).answer ≡ numbered o
       last (some k) = refl
       last none = answered (sort_of r)
 
-      go : (a b c : Bool) → refused_by (pick a (only m 0 (Refused 0)) (step_for (by_address m) m (pick b (Unread 1) (pick c (Unread 2) (Got r n))))).answer
-          ≡ when a 0 (when b 1 (when c 2 (turned_by m (sort_of r))))
+      go : (a b c : Bool) → refused_by (pick a (only m 0 (Refused ShortList)) (step_for (by_address m) m (pick b (Err UnknownKind) (pick c (Err CutOff) (got r n))))).answer
+          ≡ numbered (when a ShortList (when b UnknownKind (when c CutOff (turned_by m (sort_of r)))))
       go true b c = refl
       go false true c = refl
       go false false true = refl
       go false false false = last (turned_by m (sort_of r))
 
-  ended_is : (room : ℕ) → refused_by (step_of m room []).answer ≡ when (ltb room list_room) 0 none
+  ended_is : (room : ℕ) → refused_by (step_of m room []).answer ≡ numbered (when (ltb room list_room) ShortList none)
   unfolding step_of step_with step_for read_of only refused_by when
   ended_is room = go (ltb room list_room)
     where
-      go : (a : Bool) → refused_by (pick a (only m 0 (Refused 0)) (only m 0 End)).answer ≡ when a 0 none
+      go : (a : Bool) → refused_by (pick a (only m 0 (Refused ShortList)) (only m 0 End)).answer ≡ numbered (when a ShortList none)
       go true = refl
       go false = refl
 
@@ -234,10 +247,10 @@ module _ (m : State) where
   -- THE LAW: a step is refused by the number of the first check that refuses, in the document's order
   pub outcome : Came m → (room : ℕ) (s : List ℕ) → Outcome (checks m room s) (refused_by (step_of m room s).answer)
   unfolding checks
-  outcome c room [] = rw (ended_is room) (first _ _ _ 0 none (lt_test room list_room) (λ z. none_left))
+  outcome c room [] = rw (ended_is room) (first _ _ _ ShortList none (lt_test room list_room) (λ z. none_left))
   outcome c room (kind ∷ body) =
       rw (refused_is room kind body)
-      (first _ _ _ 0 _ (lt_test room list_room) (λ z.
-      first _ _ _ 1 _ (kind_test kind) (λ z.
-      first _ _ _ 2 _ (λ e. omega (arith, ltb-true (length (kind ∷ body)) (1 + body_of kind) e), λ h. lt-ltb (length (kind ∷ body)) (1 + body_of kind) (omega arith)) (λ z.
-      first _ _ _ 3 _ (not_test _ _ (eq_test m.plan.phase (phase_of (sort_of (record_of (kind ∷ body)))))) (λ z. kind_outcome m c (record_of (kind ∷ body)) (rw (width_is c) (fits (kind ∷ body))))))))
+      (first _ _ _ ShortList _ (lt_test room list_room) (λ z.
+      first _ _ _ UnknownKind _ (kind_test kind) (λ z.
+      first _ _ _ CutOff _ (λ e. omega (arith, ltb-true (length (kind ∷ body)) (1 + body_of kind) e), λ h. lt-ltb (length (kind ∷ body)) (1 + body_of kind) (omega arith)) (λ z.
+      first _ _ _ OutOfOrder _ (not_test _ _ (phase_test m.plan.phase (phase_of (sort_of (record_of (kind ∷ body)))))) (λ z. kind_outcome m c (record_of (kind ∷ body)) (rw (width_is c) (fits (kind ∷ body))))))))

@@ -11,6 +11,7 @@ use native.Mathlib.Omega.{arith}
 use lib.ListN.{length, get_or, set}
 use lib.Seq.{ext_get_or, get_or-set_same, get_or-set_other, set_out}
 use Rattle.meaning.specs.Search.{lowest_below}
+use Rattle.meaning.specs.declared.hall.Phase.TheVariants.{Bare, Closed}
 use Rattle.meaning.specs.Hall.{top, Plan, State, empty, fresh, source_of, end_of}
 use Rattle.meaning.specs.Rule.{rule_word, live, link_of, length_of, rank, lower}
 use Rattle.meaning.specs.Winner.{rule_at, eligible, winner, link_for, next_at}
@@ -113,7 +114,7 @@ module _ (m n : State) (T : Twins m n) where
   twins_same = record { width = twin_width; rule = twin_rules; link = twin_links }
 
 -- and the other way round
-pub twins : (m n : State) → Came m → Came n → m.plan.phase ≡ 2 → m.plan ≡ n.plan → m.rule ≡ n.rule → Twins m n
+pub twins : (m n : State) → Came m → Came n → m.plan.phase ≡ Closed → m.plan ≡ n.plan → m.rule ≡ n.rule → Twins m n
 unfolding source_of end_of rule_at
 twins m n c d closed plan rule = record {
   came = (c, d);
@@ -135,7 +136,7 @@ twins m n c d closed plan rule = record {
 plain : State → State
 plain m = record {
   width = m.width;
-  plan = record { phase = 0; nodes = m.plan.nodes; links = 0; link = m.plan.link };
+  plan = record { phase = Bare; nodes = m.plan.nodes; links = 0; link = m.plan.link };
   rule = m.rule;
   atoms = record { count = 0; cut = []; number = [] };
 }

@@ -18,8 +18,8 @@ use Rattle.meaning.specs.Atoms.{place_of}
 use Rattle.meaning.specs.Labels.{on, names, is_on, labels_of, how_many, lowest_on}
 use Rattle.meaning.specs.Working.{owners_of}
 use Rattle.meaning.specs.Run.{Came}
-use Rattle.meaning.specs.declared.Hall.{Hall}
-use Rattle.meaning.specs.Box.{state_of, Held, AtomsHeld}
+use Rattle.meaning.specs.declared.hall.Hall.{Hall}
+use Rattle.meaning.specs.Box.{HeldBy, Held, AtomsHeld}
 use Rattle.meaning.specs.Tables.{Holds, Sound}
 use Rattle.meaning.proofs.base.Search.{count_same, count_until, lowest_agree}
 use Rattle.meaning.proofs.base.Order.{le_or_lt}
@@ -126,9 +126,9 @@ module _ (m : State) (S : Sound m) where
 pub held_of : (m : State) → Came m → Held m (labels_of m) (owners_of m)
 held_of m c = record { came = c; labels = refl; owners = refl }
 
--- the premise where only cuts and numbers are lent holds of every box that is held
-pub atoms_held : (h : Hall) (link rule cut number label owner : List ℕ) → Held (state_of h link rule cut number) label owner → AtomsHeld h cut number
-atoms_held h link rule cut number label owner x = record { link = link; rule = rule; label = label; owner = owner; held = x }
+-- the premise where only the atoms are lent holds of every hall that is held
+pub atoms_held : (h : Hall) → HeldBy h → AtomsHeld h.atoms
+atoms_held h x = record { hall = h; held = x; is = refl }
 
 -- ---- how many atoms a link has, and the lowest-numbered one, asked of the label itself
 

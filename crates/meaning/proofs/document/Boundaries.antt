@@ -11,17 +11,17 @@ use lib.Pow.{pow_pos}
 use lib.ListN.{get_or}
 use Rattle.meaning.specs.declared.Answer.{Answer}
 use Rattle.meaning.specs.declared.Answer.TheVariants.{Changed}
-use Rattle.meaning.specs.declared.Read.TheVariants.{Got}
 use Rattle.meaning.specs.declared.Record.{Record}
 use Rattle.meaning.specs.Search.{pick}
 use Rattle.meaning.specs.Hall.{top, State, empty, fresh, ipv4}
 use Rattle.meaning.specs.Rule.{rule_word, lower, upper, span}
 use Rattle.meaning.specs.Atoms.{place_of, is_cut, insert_at, split_cut, split_count, with_cut, is_boundary}
 use Rattle.meaning.specs.Questions.{by_address}
-use Rattle.meaning.specs.Records.{read_of, Update, insert, remove, Question, Sort, set_up, update, question, sort_of}
+use Rattle.meaning.specs.Records.{got, read_of, Update, insert, remove, Question, Sort, set_up, update, question, sort_of}
 use Rattle.meaning.specs.Step.{Done, added, update_refusal, with_rule, inserted, updated, refusal, leaves, only, answers, accepted, step_with, step_of}
 use Rattle.meaning.specs.Run.{Came, start, more}
 use Rattle.meaning.specs.Tables.{Cuts, Boundary, Sound, BoundaryOf}
+use Rattle.meaning.proofs.records.Begins.{got_once}
 use Rattle.meaning.proofs.base.InsertAt.{insert_below, insert_same, insert_over}
 use Rattle.meaning.proofs.base.Order.{clash, Order, less, same, more as past, order}
 use Rattle.meaning.proofs.atoms.Splits.{within, is_boundary_lem, boundary_is, split_count_lem}
@@ -129,7 +129,7 @@ pub record EndsAt (m : State) (room : ℕ) (s : List ℕ) (b : ℕ) : Type 0 whe
   pub bytes : ℕ
   pub rule : Update
   pub count : ℕ
-  pub reads : read_of s ≡ Got taken bytes
+  pub reads : read_of s ≡ got taken bytes
   pub updates : sort_of taken ≡ update rule
   pub ok : (step_of m room s).answer ≡ Changed count
   pub end : IsEnd m.width rule b
@@ -220,7 +220,7 @@ module _ (m : State) (S : Sound m) (x : ℕ) where
         go d (turned r n k l g pos f b) e = clash cc
         go d (took r n l g pos f) e =
             let y = when_none _ _ _ f in
-            let q : E.taken ≡ r = cc E.reads in
+            let q : E.taken ≡ r = (got_once (sym E.reads ∙ g)).0 in
             let u : sort_of r ≡ update E.rule = ap sort_of (sym q) ∙ E.updates in
             rw u (update_has E.rule (rw u at (came_fits c s r n g)) (rw u at y.1) E.end)
 

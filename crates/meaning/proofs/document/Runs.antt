@@ -14,6 +14,9 @@ use lib.Seq.{drop-drop, get_or-append-add, get_or-drop}
 use borrow.Author.Tests.{eq-eqb, ne_eqb}
 use Rattle.meaning.specs.declared.Answer.{Answer}
 use Rattle.meaning.specs.declared.Answer.TheVariants.{End, Refused, Ok, Changed, Loop, NoLoop, Went, Yes, No, Tally}
+use Rattle.meaning.specs.declared.Refusal.{Refusal}
+use Rattle.meaning.specs.declared.Refusal.TheVariants.{ShortList, UnknownKind, CutOff}
+use Rattle.meaning.specs.Answers.{number_of}
 use Rattle.meaning.specs.Search.{pick, lowest_below}
 use Rattle.meaning.specs.Hall.{top, State, fresh}
 use Rattle.meaning.specs.Labels.{labels_of}
@@ -69,9 +72,9 @@ reply m (tally v) = refl
 -- the answers that a run stops at
 pub data Stops : Answer → Type 0 where
   at_end : Stops End
-  at_zero : Stops (Refused 0)
-  at_one : Stops (Refused 1)
-  at_two : Stops (Refused 2)
+  at_zero : Stops (Refused ShortList)
+  at_one : Stops (Refused UnknownKind)
+  at_two : Stops (Refused CutOff)
 
 stop_sort : (a : Answer) → Stops a → sort a ≡ 0
 unfolding sort
@@ -80,7 +83,7 @@ stop_sort a at_zero = refl
 stop_sort a at_one = refl
 stop_sort a at_two = refl
 
-stop_few : (k : ℕ) → Stops (Refused k) → k ≤ 2
+stop_few : (k : Refusal) → Stops (Refused k) → number_of k ≤ 2
 stop_few k at_zero = omega arith
 stop_few k at_one = omega arith
 stop_few k at_two = omega arith

@@ -8,17 +8,19 @@ use native.Mathlib.Omega.{arith}
 use lib.ListN.{length}
 use borrow.Author.Tests.{le-ltb, eqb-true, not-false}
 use Rattle.meaning.specs.declared.Answer.TheVariants.{Changed}
-use Rattle.meaning.specs.declared.Read.TheVariants.{Got}
 use Rattle.meaning.specs.declared.Record.TheVariants.{Insert, Remove}
+use Rattle.meaning.specs.declared.hall.Phase.TheVariants.{Closed}
 use Rattle.meaning.specs.Hall.{State, source_of}
 use Rattle.meaning.specs.Rule.{rule_word}
 use Rattle.meaning.specs.Changes.{entry_at, entries_at}
 use Rattle.meaning.specs.Atoms.{with_cut}
 use Rattle.meaning.specs.Questions.{by_address}
-use Rattle.meaning.specs.Records.{sort_of, update, read_of, phase_of, insert, remove}
+use Rattle.meaning.specs.Records.{got, sort_of, update, read_of, phase_of, insert, remove}
 use Rattle.meaning.specs.Step.{update_refusal, writes, updated, Done, when, refusal, with_rule, inserted, leaves, node_of, changes, only, answers, accepted, step_with, step_of, list_room}
 use Rattle.meaning.specs.Run.{Came}
 use Rattle.meaning.specs.Tables.{Sound}
+use Rattle.meaning.proofs.records.Begins.{got_once}
+use Rattle.meaning.proofs.base.Stages.{stage_once}
 use Rattle.meaning.proofs.records.Fields.{FitsUpdate, Fits, Sized}
 use Rattle.meaning.proofs.records.Checks.{when_none, Clear, clear}
 use Rattle.meaning.proofs.sound.Sound.{came_fits}
@@ -49,7 +51,7 @@ module _ (m : State) (S : Sound m) (r l p n t : ℕ) (F : Sized m.width l p t) (
 
 -- ---- the two steps
 
-module _ (m : State) (c : Came m) (room : ℕ) (s s' : List ℕ) (r l p n t i i' j : ℕ) (reads : read_of s ≡ Got (Insert r l p n t) i) (then : read_of s' ≡ Got (Remove r) i')
+module _ (m : State) (c : Came m) (room : ℕ) (s s' : List ℕ) (r l p n t i i' j : ℕ) (reads : read_of s ≡ got (Insert r l p n t) i) (then : read_of s' ≡ got (Remove r) i')
     (ok : (step_of m room s).answer ≡ Changed j) where
   -- what the insert leaves and writes, and what its removal, which follows at once, leaves and writes
   abbrev pub first : Done
@@ -60,7 +62,7 @@ module _ (m : State) (c : Came m) (room : ℕ) (s s' : List ℕ) (r l p n t i i'
 
   record Took : Type 0 where
     enough : list_room ≤ room
-    phase : m.plan.phase ≡ 2
+    phase : m.plan.phase ≡ Closed
     passes : update_refusal m (insert r l p n t) ≡ none
     is : step_of m room s ≡ accepted (by_address m) m i (update (insert r l p n t))
 
@@ -74,10 +76,10 @@ module _ (m : State) (c : Came m) (room : ℕ) (s s' : List ℕ) (r l p n t i i'
       go d (unread k h g o) q e = clash cc
       go d (turned x k' k h g pos f b) q e = clash cc
       go d (took x k h g pos f) q e =
-          let a : x ≡ Insert r l p n t = cc in
-          let b : k ≡ i = cc in
+          let a : x ≡ Insert r l p n t = (got_once (sym g ∙ reads)).0 in
+          let b : k ≡ i = (got_once (sym g ∙ reads)).1 in
           let y = when_none _ _ _ (rw a at f) in
-          record { enough = h; phase = eqb-true _ _ (not-false _ y.0); passes = y.1; is = rw (a, b) at q }
+          record { enough = h; phase = stage_once (eqb-true _ _ (not-false _ y.0)); passes = y.1; is = rw (a, b) at q }
 
   fit : Sized m.width l p t
   unfolding sort_of Fits FitsUpdate
@@ -94,7 +96,7 @@ module _ (m : State) (c : Came m) (room : ℕ) (s s' : List ℕ) (r l p n t i i'
   unfolding update_refusal when
   removable = rw (le-ltb 255 r (omega (arith, free.number)), (insert_stores m (sound m c) r l p n t fit took_it.passes).alive)
 
-  same_phase : (updated m (insert r l p n t)).plan.phase ≡ 2
+  same_phase : (updated m (insert r l p n t)).plan.phase ≡ Closed
   unfolding updated inserted with_rule with_cut
   same_phase = took_it.phase
 

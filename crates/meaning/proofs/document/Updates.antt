@@ -9,6 +9,7 @@ use Prim.Native.Nat.{ℕ, ◌/◌, ◌≤◌, ◌<◌}
 use native.Mathlib.Decide.{ℕ_discrete}
 use lib.ListN.{get_or}
 use borrow.Author.Tests.{eqb-false, ne_eqb, not-true}
+use Rattle.meaning.specs.declared.hall.Phase.TheVariants.{Closed}
 use Rattle.meaning.specs.Hall.{top, State, source_of}
 use Rattle.meaning.specs.Winner.{rule_at, winner, link_for, next_at, node_for}
 use Rattle.meaning.specs.Atoms.{with_cut, is_boundary}
@@ -66,7 +67,7 @@ same_label m n r z u J l h j k a x y =
 
 -- ---- an accepted insert
 
-module _ (m : State) (S : Sound m) (r l p n t : ℕ) (F : Sized m.width l p t) (ph : m.plan.phase ≡ 2) (ok : update_refusal m (insert r l p n t) ≡ none) where
+module _ (m : State) (S : Sound m) (r l p n t : ℕ) (F : Sized m.width l p t) (ph : m.plan.phase ≡ Closed) (ok : update_refusal m (insert r l p n t) ≡ none) where
   abbrev with_it : State
   with_it = updated m (insert r l p n t)
 
@@ -98,7 +99,7 @@ module _ (m : State) (S : Sound m) (r l p n t : ℕ) (F : Sized m.width l p t) (
 
 -- ---- an accepted remove
 
-module _ (m : State) (S : Sound m) (r : ℕ) (ph : m.plan.phase ≡ 2) (ok : update_refusal m (remove r) ≡ none) where
+module _ (m : State) (S : Sound m) (r : ℕ) (ph : m.plan.phase ≡ Closed) (ok : update_refusal m (remove r) ≡ none) where
   abbrev without : State
   without = updated m (remove r)
 

@@ -6,6 +6,8 @@ use Prim.Native.Nat.{ℕ, ◌+◌, ◌≤◌, ◌<◌, ◌%◌}
 use native.Mathlib.Omega.{arith}
 use lib.Dec.{ltb, eqb}
 use borrow.Author.Tests.{ne_eqb, lt-ltb, le-ltb, le-leb, lt-leb, ltb-false, leb-false, eqb-true, not-false, eq-eqb}
+use Rattle.meaning.specs.declared.Refusal.{Refusal}
+use Rattle.meaning.specs.declared.Refusal.TheVariants.{NoLink, NoRule, RuleLive, RuleNotLive, NoPrefix, Tie, CutsFull}
 use Rattle.meaning.specs.Step.{when, set_up_refusal, ragged, clashes, added, update_refusal}
 use Rattle.meaning.specs.Hall.{Plan, State}
 use Rattle.meaning.specs.Rule.{span, rule_word, live}
@@ -14,7 +16,7 @@ use Rattle.meaning.proofs.base.Search.{or_neither}
 use Rattle.meaning.proofs.base.Order.{clash}
 use Rattle.meaning.specs.Records.{insert, remove, link}
 
-pub when_none : (t : Bool) (k : ℕ) (o : Option ℕ) → when t k o ≡ none → (t ≡ false) × (o ≡ none)
+pub when_none : (t : Bool) (k : Refusal) (o : Option Refusal) → when t k o ≡ none → (t ≡ false) × (o ≡ none)
 unfolding when
 when_none true k o e = clash cc
 when_none false k o e = (refl, e)
@@ -30,40 +32,40 @@ live_is w n = rw (ne_eqb w 0 n)
 -- ---- an insert
 
 module _ (m : State) (r l p n t : ℕ) where
-  abbrev Says : Option ℕ → Type 0
+  abbrev Says : Option Refusal → Type 0
   Says o = update_refusal m (insert r l p n t) ≡ o
 
-  pub number_high : 255 < r → Says (some 8)
+  pub number_high : 255 < r → Says (some NoRule)
   unfolding update_refusal when
   number_high h = rw (lt-ltb 255 r h)
 
   module _ (low : r ≤ 255) where
-    pub number_live : (rule_at m r ≡ 0 → ⊥) → Says (some 9)
+    pub number_live : (rule_at m r ≡ 0 → ⊥) → Says (some RuleLive)
     unfolding update_refusal when
     number_live h = rw (le-ltb 255 r low, live_is (rule_at m r) h)
 
     module _ (free : rule_at m r ≡ 0) where
-      pub link_unknown : m.plan.links ≤ l → Says (some 5)
+      pub link_unknown : m.plan.links ≤ l → Says (some NoLink)
       unfolding update_refusal when
       link_unknown h = rw (le-ltb 255 r low, live_not (rule_at m r) free, le-leb m.plan.links l h)
 
       module _ (known : l < m.plan.links) where
-        pub length_high : m.width < n → Says (some 11)
+        pub length_high : m.width < n → Says (some NoPrefix)
         unfolding update_refusal when
         length_high h = rw (le-ltb 255 r low, live_not (rule_at m r) free, lt-leb m.plan.links l known, lt-ltb m.width n h)
 
         module _ (short : n ≤ m.width) where
-          pub prefix_ragged : ragged m.width p n ≡ true → Says (some 11)
+          pub prefix_ragged : ragged m.width p n ≡ true → Says (some NoPrefix)
           unfolding update_refusal when
           prefix_ragged e = rw (le-ltb 255 r low, live_not (rule_at m r) free, lt-leb m.plan.links l known, le-ltb m.width n short, e)
 
           module _ (whole : ragged m.width p n ≡ false) where
-            pub rule_clashes : clashes m (rule_word m.width l p n t) ≡ true → Says (some 12)
+            pub rule_clashes : clashes m (rule_word m.width l p n t) ≡ true → Says (some Tie)
             unfolding update_refusal when
             rule_clashes e = rw (le-ltb 255 r low, live_not (rule_at m r) free, lt-leb m.plan.links l known, le-ltb m.width n short, whole, e)
 
             module _ (apart : clashes m (rule_word m.width l p n t) ≡ false) where
-              pub cuts_many : 512 < m.atoms.count + added m (rule_word m.width l p n t) → Says (some 13)
+              pub cuts_many : 512 < m.atoms.count + added m (rule_word m.width l p n t) → Says (some CutsFull)
               unfolding update_refusal when
               cuts_many h =
                   rw (le-ltb 255 r low, live_not (rule_at m r) free, lt-leb m.plan.links l known, le-ltb m.width n short, whole, apart, lt-ltb 512 (m.atoms.count + added m (rule_word m.width l p n t)) h)
@@ -76,11 +78,11 @@ module _ (m : State) (r l p n t : ℕ) where
 -- ---- a remove
 
 module _ (m : State) (r : ℕ) where
-  pub remove_high : 255 < r → update_refusal m (remove r) ≡ some 8
+  pub remove_high : 255 < r → update_refusal m (remove r) ≡ some NoRule
   unfolding update_refusal when
   remove_high h = rw (lt-ltb 255 r h)
 
-  pub remove_free : r ≤ 255 → rule_at m r ≡ 0 → update_refusal m (remove r) ≡ some 10
+  pub remove_free : r ≤ 255 → rule_at m r ≡ 0 → update_refusal m (remove r) ≡ some RuleNotLive
   unfolding update_refusal when
   remove_free low e = rw (le-ltb 255 r low, live_not (rule_at m r) e)
 

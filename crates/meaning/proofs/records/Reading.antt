@@ -8,14 +8,15 @@ use native.Mathlib.Omega.{arith}
 use lib.Dec.{eqb, ltb}
 use lib.ListN.{length, get_or, drop, length-drop}
 use borrow.Author.Tests.{eq-eqb, ne_eqb, lt-ltb, le-ltb, ltb-false}
-use Rattle.meaning.specs.declared.Read.{Read}
-use Rattle.meaning.specs.declared.Read.TheVariants.{End, Refused, Got}
+use Rattle.std.specs.Prelude.{Err}
+use Rattle.meaning.specs.declared.Refusal.TheVariants.{UnknownKind, CutOff}
 use Rattle.meaning.specs.declared.Placed.{Placed}
 use Rattle.meaning.specs.declared.Record.{Record}
 use Rattle.meaning.specs.declared.Record.TheVariants.{Hall as hall, Link as link, Close as close, Insert as insert, Remove as remove, Loop as loop, Fate as fate, Reach as reach, Tally as tally}
 use Rattle.meaning.specs.Search.{pick}
-use Rattle.meaning.specs.Records.{number, is_kind, body_of, record_of, read_of, place_after, placed_at}
+use Rattle.meaning.specs.Records.{number, is_kind, body_of, record_of, Read, no_more, got, read_of, place_after, placed_at}
 use Rattle.meaning.proofs.base.Order.{clash}
+use Rattle.meaning.proofs.records.Begins.{got_once}
 
 module _ (s : List ℕ) (i : ℕ) where
   first : get_or s (i + 0) 0 % 256 ≡ get_or s i 0 % 256
@@ -41,10 +42,6 @@ pub number_four : (s : List ℕ) (i : ℕ) → number s i 2 * 65536 + number s (
 number_four s i =
     let e : get_or s (i + 2 + 1) 0 ≡ get_or s (i + 3) 0 = (let f : i + 2 + 1 ≡ i + 3 = omega arith in ap (λ (x : ℕ). get_or s x 0) f) in
     omega (arith, number_two s i, number_two s (i + 2), all s i, e)
-
--- a number past k that is none of the next three is past them
-pub past : (k x : ℕ) → k < x → (x ≡ k + 1 → ⊥) → (x ≡ k + 2 → ⊥) → (x ≡ k + 3 → ⊥) → k + 3 < x
-past k x h a b d = omega arith
 
 -- the record of each kind, by its fields
 module _ (s : List ℕ) where
@@ -84,43 +81,39 @@ module _ (s : List ℕ) where
   unfolding record_of
   is_tally e = rw e
 
-  -- a record of kind k has the bytes of its body
-  pub longer : (k : ℕ) → get_or s 0 0 ≡ k → 1 + body_of (get_or s 0 0) ≤ length s → 1 + body_of k ≤ length s
-  longer k e h = rw e at h
-
   -- what the bytes begin with, by the tests on the way
-  pub read_end : length s ≡ 0 → End ≡ read_of s
+  pub read_end : length s ≡ 0 → no_more ≡ read_of s
   unfolding read_of
   read_end e = rw (eq-eqb (length s) 0 e)
 
   module _ (some : length s ≡ 0 → ⊥) where
-    pub read_unknown : is_kind (get_or s 0 0) ≡ false → Refused 1 ≡ read_of s
+    pub read_unknown : is_kind (get_or s 0 0) ≡ false → Err UnknownKind ≡ read_of s
     unfolding read_of
     read_unknown e = rw (ne_eqb (length s) 0 some, e)
 
-    pub read_short : is_kind (get_or s 0 0) ≡ true → length s < 1 + body_of (get_or s 0 0) → Refused 2 ≡ read_of s
+    pub read_short : is_kind (get_or s 0 0) ≡ true → length s < 1 + body_of (get_or s 0 0) → Err CutOff ≡ read_of s
     unfolding read_of
     read_short e h = rw (ne_eqb (length s) 0 some, e, lt-ltb (length s) (1 + body_of (get_or s 0 0)) h)
 
-    pub read_got : is_kind (get_or s 0 0) ≡ true → 1 + body_of (get_or s 0 0) ≤ length s → Got (record_of s) (1 + body_of (get_or s 0 0)) ≡ read_of s
+    pub read_got : is_kind (get_or s 0 0) ≡ true → 1 + body_of (get_or s 0 0) ≤ length s → got (record_of s) (1 + body_of (get_or s 0 0)) ≡ read_of s
     unfolding read_of
     read_got e h = rw (ne_eqb (length s) 0 some, e, le-ltb (length s) (1 + body_of (get_or s 0 0)) h)
 
 -- past the end of a stream no byte is left
-pub read_past : (s : List ℕ) (at : ℕ) → length s < at → End ≡ read_of (drop at s)
+pub read_past : (s : List ℕ) (at : ℕ) → length s < at → no_more ≡ read_of (drop at s)
 read_past s at h = read_end (drop at s) (rw length-drop (omega arith))
 
 -- a record that is read lies within the bytes
-pub read_within : (s : List ℕ) (r : Record) (n : ℕ) → read_of s ≡ Got r n → n ≤ length s
+pub read_within : (s : List ℕ) (r : Record) (n : ℕ) → read_of s ≡ got r n → n ≤ length s
 unfolding read_of
 read_within s r n e = go (eqb (length s) 0) (not (is_kind (get_or s 0 0))) (ltb (length s) (1 + body_of (get_or s 0 0))) refl e
   where
     go : (a b c : Bool) → ltb (length s) (1 + body_of (get_or s 0 0)) ≡ c
-        → pick a End (pick b (Refused 1) (pick c (Refused 2) (Got (record_of s) (1 + body_of (get_or s 0 0))))) ≡ Got r n → n ≤ length s
+        → pick a no_more (pick b (Err UnknownKind) (pick c (Err CutOff) (got (record_of s) (1 + body_of (get_or s 0 0))))) ≡ got r n → n ≤ length s
     go true b c f e = clash cc
     go false true c f e = clash cc
     go false false true f e = clash cc
-    go false false false f e = let z : 1 + body_of (get_or s 0 0) ≡ n = cc in omega (arith, ltb-false (length s) (1 + body_of (get_or s 0 0)) f)
+    go false false false f e = let z : 1 + body_of (get_or s 0 0) ≡ n = (got_once e).1 in omega (arith, ltb-false (length s) (1 + body_of (get_or s 0 0)) f)
 
 -- what is read at a place, from what was read and the place after it
 pub placed : (s : List ℕ) (at : ℕ) (x : Read) (p : ℕ) → x ≡ read_of (drop at s) → p ≡ place_after at x → ◌≡◌ {A = Placed} (record { read = x; place = p }) (placed_at s at)

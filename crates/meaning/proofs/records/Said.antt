@@ -13,15 +13,59 @@ use Rattle.meaning.specs.declared.Answer.{Answer}
 use Rattle.meaning.specs.declared.Answer.TheVariants.{End, Refused, Ok, Changed, Loop, NoLoop, Went, Yes, No, Tally}
 use Rattle.meaning.specs.declared.Record.{Record}
 use Rattle.meaning.specs.declared.Record.TheVariants.{Hall, Link, Close, Insert, Remove, Loop as AskLoop, Fate as AskFate, Reach as AskReach, Tally as AskTally}
-use Rattle.meaning.specs.declared.Read.{Read}
-use Rattle.meaning.specs.declared.Read.TheVariants.{End as Nothing, Refused as Unread, Got}
+use Rattle.std.specs.Prelude.{Ok as right, Err as wrong, Some, None}
+use Rattle.meaning.specs.declared.Refusal.{Refusal}
+use Rattle.meaning.specs.declared.Refusal.TheVariants.{ShortList, UnknownKind, CutOff, OutOfOrder, NoNode, NoLink, LinksFull, NoEnd, NoRule, RuleLive, RuleNotLive, NoPrefix, Tie, CutsFull}
 use Rattle.meaning.specs.declared.Placed.{Placed}
-use Rattle.meaning.specs.Answers.{Word, end, refused, ok, loop, none, out, lost, round, yes, no, tally, Said, says, said_fate, said, Sent, sends, sent, SaidRead, answered, whole, said_read, SaidPlaced, said_placed}
-use Rattle.meaning.specs.Records.{number, is_kind, body_of, record_of, read_of}
+use Rattle.meaning.specs.Answers.{number_of, Word, end, refused, ok, loop, none, out, lost, round, yes, no, tally, Said, says, said_fate, said, Sent, sends, sent, SaidRead, answered, whole, said_read, SaidPlaced, said_placed}
+use Rattle.meaning.specs.Records.{number, is_kind, body_of, record_of, Read, no_more, got, read_of}
 use Rattle.meaning.specs.Hall.{State}
 use Rattle.meaning.specs.Box.{Left, left}
 use Rattle.meaning.proofs.base.Search.{and_both}
 use Rattle.meaning.proofs.records.Reading.{is_hall, is_link, is_close, is_insert, is_remove, is_loop, is_fate, is_reach, is_tally, read_end, read_unknown, read_short, read_got}
+
+-- the refusal by its number
+unfoldable refusal_of : ℕ → Refusal
+refusal_of n =
+    get_or
+    (ShortList
+    ∷ UnknownKind
+    ∷ CutOff
+    ∷ OutOfOrder
+    ∷ NoNode
+    ∷ NoLink
+    ∷ LinksFull
+    ∷ NoEnd
+    ∷ NoRule
+    ∷ RuleLive
+    ∷ RuleNotLive
+    ∷ NoPrefix
+    ∷ Tie
+    ∷ CutsFull
+    ∷ [])
+    n
+    ShortList
+
+refusal_again : (k : Refusal) → refusal_of (number_of k) ≡ k
+unfolding refusal_of
+refusal_again ShortList = refl
+refusal_again UnknownKind = refl
+refusal_again CutOff = refl
+refusal_again OutOfOrder = refl
+refusal_again NoNode = refl
+refusal_again NoLink = refl
+refusal_again LinksFull = refl
+refusal_again NoEnd = refl
+refusal_again NoRule = refl
+refusal_again RuleLive = refl
+refusal_again RuleNotLive = refl
+refusal_again NoPrefix = refl
+refusal_again Tie = refl
+refusal_again CutsFull = refl
+
+-- THE LAW: two refusals of one number are the same
+pub refusal_once : (j k : Refusal) → number_of j ≡ number_of k → j ≡ k
+refusal_once j k e = sym (refusal_again j) ∙ ap refusal_of e ∙ refusal_again k
 
 -- an `ok` with no number is that of a hall, a link or a close
 oks : List ℕ → Answer
@@ -31,7 +75,7 @@ oks (n ∷ ns) = Changed n
 -- the answer that was said
 heard : Word → List ℕ → Answer
 heard end ns = End
-heard refused ns = Refused (get_or ns 0 0)
+heard refused ns = Refused (refusal_of (get_or ns 0 0))
 heard ok ns = oks ns
 heard loop ns = Loop (get_or ns 0 0) (get_or ns 1 0)
 heard none ns = NoLoop
@@ -45,7 +89,7 @@ heard tally ns = Tally (get_or ns 0 0) (get_or ns 1 0) (get_or ns 2 0)
 hears : (a : Answer) → heard (said a).word (said a).values ≡ a
 unfolding heard oks said said_fate
 hears End = refl
-hears (Refused n) = refl
+hears (Refused k) = ap Refused (refusal_again k)
 hears Ok = refl
 hears (Changed n) = refl
 hears (Loop a v) = refl
@@ -166,18 +210,18 @@ from_sent (AskReach v w) = refl
 from_sent (AskTally v) = refl
 
 unread_from : List ℕ → Read
-unread_from [] = Nothing
-unread_from (k ∷ ks) = Unread k
+unread_from [] = no_more
+unread_from (k ∷ ks) = wrong (refusal_of k)
 
 read_from : SaidRead → Read
 read_from (answered x) = unread_from x.values
-read_from (whole x n) = Got (record_from x) n
+read_from (whole x n) = got (record_from x) n
 
 from_said : (x : Read) → read_from (said_read x) ≡ x
 unfolding read_from unread_from said_read said
-from_said Nothing = refl
-from_said (Unread k) = refl
-from_said (Got r n) = ap (λ (x : Record). Got x n) (from_sent r)
+from_said (right None) = refl
+from_said (wrong k) = ap (λ (j : Refusal). wrong j) (refusal_again k)
+from_said (right (Some (r, n))) = ap (λ (x : Record). got x n) (from_sent r)
 
 -- THE LAW: two reads that say the same are the same
 pub read_once : (x y : Read) → said_read x ≡ said_read y → x ≡ y

@@ -4,6 +4,7 @@ use Prim.Native.Nat.{◌<◌}
 use native.Mathlib.Omega.{arith}
 use Rattle.meaning.specs.declared.Record.{Record}
 use Rattle.meaning.specs.declared.Record.TheVariants.{Hall, Link, Close, Insert, Remove, Loop, Fate, Reach, Tally}
+use Rattle.meaning.specs.Hall.{stage}
 use Rattle.meaning.specs.Records.{SetUp, hall, link, close, insert, remove, loop, fate, reach, tally, Sort, set_up, update, question, sort_of, set_up_phase}
 
 -- the record again
@@ -36,7 +37,7 @@ pub sorted_as : {r : Record} {x : Sort} → sort_of r ≡ x → r ≡ record_for
 sorted_as {r} e = sym (record_again r) ∙ ap record_for e
 
 -- a set-up record comes before the close
-pub before_close : (u : SetUp) → set_up_phase u < 2
+pub before_close : (u : SetUp) → stage (set_up_phase u) < 2
 unfolding set_up_phase
 before_close (hall n) = omega arith
 before_close (link s c e) = omega arith

@@ -7,8 +7,8 @@ use native.Mathlib.Omega.{arith}
 use lib.Arith.{digits_div, digits_mod}
 use lib.Pow.{pow-add}
 use borrow.Author.Tests.{ne_eqb, eqb-true, not-false}
-use Rattle.meaning.specs.declared.End.{End}
-use Rattle.meaning.specs.declared.End.TheVariants.{Node, Port, Drop}
+use Rattle.meaning.specs.declared.hall.End.{End}
+use Rattle.meaning.specs.declared.hall.End.TheVariants.{Node, Port, Drop}
 use Rattle.meaning.specs.Rule.{span, rule_word, live, link_of, free_of, length_of, rank, lower, upper}
 use Rattle.meaning.specs.Hall.{end_number, link_word}
 

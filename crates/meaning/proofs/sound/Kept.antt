@@ -10,7 +10,8 @@ use lib.ListN.{length, get_or, set, length-set}
 use lib.Seq.{get_or-set_same, get_or-set_other}
 use borrow.Author.Tests.{ltb-false, eq-eqb}
 use Rattle.meaning.specs.Search.{pick}
-use Rattle.meaning.specs.Hall.{ipv4, top, Plan, State, source_of, link_word}
+use Rattle.meaning.specs.declared.hall.Phase.TheVariants.{Bare, Closed, Open}
+use Rattle.meaning.specs.Hall.{ipv4, top, Plan, stage, State, source_of, link_word}
 use Rattle.meaning.specs.Rule.{rule_word, live, link_of, rank, lower, upper, overlap}
 use Rattle.meaning.specs.Winner.{rule_at, node_for}
 use Rattle.meaning.specs.Tables.{Boundary, BoundaryOf, Laid, Sound}
@@ -30,7 +31,7 @@ use Rattle.meaning.proofs.rules.Covers.{overlap_comm}
 -- ---- the hall, the links and the close
 
 module _ (p : Plan) (L : Laid p) where
-  lays_hall : (n : ℕ) → p.phase ≡ 0 → set_up_refusal p (hall n) ≡ none → Laid (planned p (hall n))
+  lays_hall : (n : ℕ) → p.phase ≡ Bare → set_up_refusal p (hall n) ≡ none → Laid (planned p (hall n))
   unfolding set_up_refusal planned
   lays_hall n ph ok =
       let a = or_neither (eqb n 0) (ltb 16 n) (when_none _ _ _ ok).0 in
@@ -42,7 +43,7 @@ module _ (p : Plan) (L : Laid p) where
         sources = λ l h. absurd (omega arith);
         ends = λ l h. absurd (omega arith);
         unused = L.unused;
-        bare = λ e. absurd (omega arith);
+        bare = λ e. absurd (omega (arith, ap stage e));
       }
 
   lays_close : Laid (planned p close)
@@ -54,11 +55,11 @@ module _ (p : Plan) (L : Laid p) where
     sources = L.sources;
     ends = L.ends;
     unused = L.unused;
-    bare = λ e. absurd (omega arith);
+    bare = λ e. absurd (omega (arith, ap stage e));
   }
 
   -- the word of the new link stands at the end, and the others stay
-  module _ (s c e : ℕ) (he : e < 256) (ph : p.phase ≡ 1) (ok : set_up_refusal p (link s c e) ≡ none) where
+  module _ (s c e : ℕ) (he : e < 256) (ph : p.phase ≡ Open) (ok : set_up_refusal p (link s c e) ≡ none) where
     w : ℕ
     w = link_word s (c * 256 + e)
 
@@ -80,7 +81,7 @@ module _ (p : Plan) (L : Laid p) where
       sources = λ l h. source l h (ℕ_discrete l p.links);
       ends = λ l h. ending l h (ℕ_discrete l p.links);
       unused = λ l h. at_old l (λ q. omega arith) ∙ L.unused l (omega arith);
-      bare = λ z. absurd (omega arith);
+      bare = λ z. absurd (omega (arith, ap stage (sym ph ∙ z)));
     }
       where
         source : (l : ℕ) → l < p.links + 1 → Dec (l ≡ p.links) → get_or (set p.link p.links w) l 0 / 1024 < p.nodes
@@ -101,7 +102,7 @@ module _ (p : Plan) (L : Laid p) where
 keeps_set_up : (m : State) (u : SetUp) → Sound m → FitsSetUp u → m.plan.phase ≡ set_up_phase u → set_up_refusal m.plan u ≡ none → Sound (with_plan m (planned m.plan u))
 unfolding rule_at
 keeps_set_up m u S f ph ok =
-    let idle = S.idle (omega (arith, before_close u)) in
+    let idle = S.idle (omega (arith, ap stage ph, before_close u)) in
     record {
       wide = S.wide;
       laid = lays m.plan S.laid u f ph ok;
@@ -152,7 +153,7 @@ record Joins (m : State) (w : ℕ) : Type 0 where
   to : BoundaryOf m (upper m.width w)
   alone : clashes m w ≡ false
 
-module _ (m : State) (S : Sound m) (r w : ℕ) (hr : r < 256) (ph : m.plan.phase ≡ 2) (joins : live w ≡ true → Joins m w) where
+module _ (m : State) (S : Sound m) (r w : ℕ) (hr : r < 256) (ph : m.plan.phase ≡ Closed) (joins : live w ≡ true → Joins m w) where
   alike : live w ≡ true → (i : ℕ) → i < 256 → live (rule_at m i) ≡ true → node_for m (rule_at m i) ≡ node_for m w → rank m.width (rule_at m i) ≡ rank m.width w → overlap m.width (rule_at m i) w ≡ true → ⊥
   unfolding clashes
   alike z i l e f g h = true≢false (sym (rw (e, eq-eqb _ _ f, eq-eqb _ _ g, h) refl) ∙ any_false _ 256 (joins z).alone i l)
@@ -198,10 +199,10 @@ module _ (m : State) (S : Sound m) (r w : ℕ) (hr : r < 256) (ph : m.plan.phase
         let e = ℕ_discrete j r in
         rw (at_is i d, at_is j e) (unfold with_rule source_of in distinct' i j a b d e);
     laid = unfold with_rule in S.laid;
-    idle = λ h. absurd (unfold with_rule in omega arith);
+    idle = λ h. absurd (unfold with_rule in omega (arith, ap stage ph));
   }
 
-keeps_remove : (m : State) → Sound m → (r : ℕ) → r < 256 → m.plan.phase ≡ 2 → Sound (with_rule m r 0)
+keeps_remove : (m : State) → Sound m → (r : ℕ) → r < 256 → m.plan.phase ≡ Closed → Sound (with_rule m r 0)
 unfolding live
 keeps_remove m S r hr ph = keeps_rule m S r 0 hr ph (λ e. absurd (true≢false (sym e)))
 
@@ -273,7 +274,7 @@ module _ (m : State) (S : Sound m) (w : ℕ) (R : RoomForEnds m w) where
   unfolding with_cut
   has_upper = split_has (top m) _ _ (upper m.width w) keeps_lower.cuts R.upper_top room_upper
 
-keeps_insert : (m : State) → Sound m → (r l p n t : ℕ) → Sized m.width l p t → m.plan.phase ≡ 2 → Clear m r l p n t → Sound (inserted m r (rule_word m.width l p n t))
+keeps_insert : (m : State) → Sound m → (r l p n t : ℕ) → Sized m.width l p t → m.plan.phase ≡ Closed → Clear m r l p n t → Sound (inserted m r (rule_word m.width l p n t))
 unfolding inserted with_cut
 keeps_insert m S r l p n t F ph C =
     let w = rule_word m.width l p n t in
@@ -289,7 +290,7 @@ keeps_insert m S r l p n t F ph C =
 
 -- ---- every record
 
-pub keeps_update : (m : State) (u : Update) → Sound m → FitsUpdate m.width u → m.plan.phase ≡ 2 → update_refusal m u ≡ none → Sound (updated m u)
+pub keeps_update : (m : State) (u : Update) → Sound m → FitsUpdate m.width u → m.plan.phase ≡ Closed → update_refusal m u ≡ none → Sound (updated m u)
 unfolding updated FitsUpdate
 keeps_update m (insert r l p n t) S f ph ok = keeps_insert m S r l p n t f ph (clear m r l p n t ok)
 keeps_update m (remove r) S f ph ok = keeps_remove m S r (clear_remove m r ok).number ph

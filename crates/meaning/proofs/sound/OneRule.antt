@@ -8,6 +8,7 @@ use Prim.Native.Nat.{ℕ, ◌/◌, ◌≤◌, ◌<◌}
 use native.Mathlib.Decide.{ℕ_discrete}
 use native.Mathlib.Omega.{arith}
 use lib.ListN.{get_or}
+use Rattle.meaning.specs.declared.hall.Phase.TheVariants.{Closed}
 use Rattle.meaning.specs.Hall.{State, source_of}
 use Rattle.meaning.specs.Rule.{rule_word, live, rank, lower, upper, covers}
 use Rattle.meaning.specs.Winner.{better, rule_at, eligible, winner, node_for}
@@ -120,7 +121,7 @@ module _ (m n : State) (r z v : ℕ) (J : Joined m n r z v) (u a : ℕ) where
   unfolding owner_word
   owner_alike e = rw (← e, J.others (winner m u a) never, J.width)
 
-module _ (m : State) (r : ℕ) (S : Sound m) (ph : m.plan.phase ≡ 2) (ok : update_refusal m (remove r) ≡ none) where
+module _ (m : State) (r : ℕ) (S : Sound m) (ph : m.plan.phase ≡ Closed) (ok : update_refusal m (remove r) ≡ none) where
   live_there : ClearRemove m r
   live_there = clear_remove m r ok
 
@@ -140,7 +141,7 @@ module _ (m : State) (r : ℕ) (S : Sound m) (ph : m.plan.phase ≡ 2) (ok : upd
   }
 
 -- an insert goes by way of the state whose boundaries are made
-module _ (m : State) (r l p n t : ℕ) (S : Sound m) (F : Sized m.width l p t) (ph : m.plan.phase ≡ 2) (ok : update_refusal m (insert r l p n t) ≡ none) where
+module _ (m : State) (r l p n t : ℕ) (S : Sound m) (F : Sized m.width l p t) (ph : m.plan.phase ≡ Closed) (ok : update_refusal m (insert r l p n t) ≡ none) where
   abbrev z : ℕ
   z = rule_word m.width l p n t
 

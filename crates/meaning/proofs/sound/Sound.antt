@@ -15,18 +15,19 @@ use borrow.Author.Tests.{eqb-true, not-false}
 use Rattle.meaning.specs.declared.Answer.{Answer}
 use Rattle.meaning.specs.declared.Answer.TheVariants.{Refused}
 use Rattle.meaning.specs.declared.Record.{Record}
-use Rattle.meaning.specs.declared.Read.{Read}
-use Rattle.meaning.specs.declared.Read.TheVariants.{Got}
+use Rattle.meaning.specs.declared.Refusal.{Refusal}
+use Rattle.meaning.specs.declared.Refusal.TheVariants.{ShortList, OutOfOrder}
 use Rattle.meaning.specs.Search.{pick}
-use Rattle.meaning.specs.Hall.{ipv4, top, zeroes, State, empty, fresh}
+use Rattle.meaning.specs.Hall.{ipv4, top, zeroes, stage, State, empty, fresh}
 use Rattle.meaning.specs.Rule.{live}
 use Rattle.meaning.specs.Winner.{rule_at}
 use Rattle.meaning.specs.Tables.{Cuts, Numbers, Laid, Sound}
-use Rattle.meaning.specs.Records.{record_of, read_of, Update, insert, remove, Question, Sort, set_up, update, question, sort_of, phase_of}
+use Rattle.meaning.specs.Records.{record_of, Read, got, read_of, Update, insert, remove, Question, Sort, set_up, update, question, sort_of, phase_of}
 use Rattle.meaning.specs.Atoms.{with_cut}
 use Rattle.meaning.specs.Step.{list_room, when, with_rule, inserted, updated, refusal, leaves, only, accepted, taken, step_for, step_with, step_of}
 use Rattle.meaning.specs.Run.{Came, start, more}
 use Rattle.meaning.proofs.base.Order.{le_or_lt}
+use Rattle.meaning.proofs.base.Stages.{stage_once}
 use Rattle.meaning.proofs.records.Begins.{Begins, nothing, unread, whole, begins}
 use Rattle.meaning.proofs.records.Fields.{Fits, fits}
 use Rattle.meaning.proofs.records.Steps.{reads_fit}
@@ -42,12 +43,12 @@ module _ (ask : Question → Answer) (P : State → Type 0) (m : State) (room : 
       r : Sort
       r = sort_of (record_of s)
 
-      last : (n : ℕ) (e : Bool) (o : Option ℕ) → not (eqb m.plan.phase (phase_of r)) ≡ e → refusal m r ≡ o → P (taken ask m n r (when e 3 o)).left
+      last : (n : ℕ) (e : Bool) (o : Option Refusal) → not (eqb (stage m.plan.phase) (stage (phase_of r))) ≡ e → refusal m r ≡ o → P (taken ask m n r (when e OutOfOrder o)).left
       last n true o h g = p
       last n false (some k) h g = p
-      last n false none h g = f r (fits s) (eqb-true _ _ (not-false _ h)) g
+      last n false none h g = f r (fits s) (stage_once (eqb-true _ _ (not-false _ h))) g
 
-      go : (a : Bool) (x : Read) → Begins s x → P (pick a (only m 0 (Refused 0)) (step_for ask m x)).left
+      go : (a : Bool) (x : Read) → Begins s x → P (pick a (only m 0 (Refused ShortList)) (step_for ask m x)).left
       go true x b = p
       go false x (nothing h) = p
       go false x (unread k h) = p
@@ -75,7 +76,7 @@ pub top_is : {m : State} → Came m → top m ≡ 2 ^ ipv4
 top_is c = ap (λ (w : ℕ). 2 ^ w) (width_is c)
 
 -- so the fields of a record that it reads have their sizes
-pub came_fits : {m : State} → Came m → (s : List ℕ) (r : Record) (n : ℕ) → read_of s ≡ Got r n → Fits m.width (sort_of r)
+pub came_fits : {m : State} → Came m → (s : List ℕ) (r : Record) (n : ℕ) → read_of s ≡ got r n → Fits m.width (sort_of r)
 came_fits c s r n g = rw (width_is c) (reads_fit s r n g)
 
 pub came_keeps : (P : State → Type 0) → P fresh → ((m : State) (r : Sort) → P m → Fits m.width r → m.plan.phase ≡ phase_of r → refusal m r ≡ none → P (leaves m r))

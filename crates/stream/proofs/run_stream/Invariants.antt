@@ -4,9 +4,8 @@ use Rattle.meaning.specs.Box.{state_of}
 use Rattle.stream.proofs.Running.{Running}
 use Rattle.stream.proofs.run_stream.Given as goal
 
-abbrev pub invariant-loop-stopped : goal.invariant-loop-stopped
-invariant-loop-stopped l =
-    Running l.bytes l.initial.list (state_of l.h l.link l.rule l.cut l.number) l.label l.owner l.list l.at l.past
+abbrev pub invariant-loop-step : goal.invariant-loop-step
+invariant-loop-step l = Running l.bytes l.initial.list (state_of l.hall) l.hall.label l.hall.owner l.list l.at l.past
 
-abbrev pub decreases-loop-stopped : goal.decreases-loop-stopped
-decreases-loop-stopped l = length l.bytes - l.at
+abbrev pub decreases-loop-step : goal.decreases-loop-step
+decreases-loop-step l = length l.bytes - l.at

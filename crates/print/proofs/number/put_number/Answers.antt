@@ -1,12 +1,8 @@
 -- `print::number::put_number` meets its contract. Assumes nothing.
+use Rattle.std.proofs.Common.{sym, arith}
 use Rattle.print.proofs.Digits.{most}
-use Rattle.print.proofs.Writes.{both, also}
-use mathlib.Core.Path.{sym}
-use native.Mathlib.Omega.{arith}
+use Rattle.print.proofs.Writes.{also, both}
 use Rattle.print.proofs.number.put_number.Goals as goal
 
 pub returns : goal.returns
-returns c =
-    let d = c in
-    let n = d.args.n in
-    also (sym (most n (omega arith))) (omega arith) (both d.put_head-next.ensures d.put_eight.ensures)
+returns c = also (sym (most c.args.n (omega arith))) (omega arith) (both c.put_head-next.ensures c.put_eight.ensures)

@@ -1,7 +1,8 @@
 -- `ask::fate_from` meets its contract: the fate of the atom that holds the address is the address's. Assumes nothing.
 use Rattle.lent.proofs.Labelled.{held_whole}
-use Rattle.lent.proofs.Questions.{small_atom, ends_of, fate_at}
+use Rattle.lent.proofs.Questions.{fate_at}
 use Rattle.meaning.proofs.atoms.Cuts.{place_holds}
+use Rattle.questions.proofs.Moves.{stands_at}
 use native.Mathlib.Omega.{arith}
 use Rattle.questions.proofs.ask.fate_from.Goals as goal
 
@@ -9,7 +10,7 @@ pub follow-requires : goal.follow-requires
 follow-requires c =
     let W = held_whole _ _ _ c.requires.held in
     let h = place_holds W.sound.cuts c.args.a (omega (arith, c.ranges.a)) in
-    (rw c.atom_of-atom.ensures (small_atom _ _ _ W _ h.within), omega (arith, c.requires.v_lt_nodes, W.sound.laid.small), omega (arith, W.sound.laid.small), ends_of _ _ _ W)
+    rw c.atom_of-atom.ensures (stands_at W h.within c.requires.v_lt_nodes)
 
 pub returns : goal.returns
 returns c =

@@ -1,10 +1,7 @@
--- `lead::off_ahead` meets its contract. The loop's invariant: no node of `off` lies on a circle of leads. Assumes nothing.
-use Prim.Native.Nat.{◌-◌, ◌≤◌}
+-- `lead::off_ahead` meets its contract. The loop's invariant: no node of `more` lies on a circle of leads, if none of `off` does. Assumes nothing.
+use Prim.Native.Nat.{◌≤◌}
 use Rattle.questions.specs.Leads.{OffLeads}
 use Rattle.questions.proofs.lead.off_ahead.Given as goal
 
-abbrev pub invariant-loop-i : goal.invariant-loop-i
-invariant-loop-i l = (l.i ≤ 16) × OffLeads l.lead l.off
-
-abbrev pub decreases-loop-i : goal.decreases-loop-i
-decreases-loop-i l = 16 - l.i
+abbrev pub invariant-loop-v : goal.invariant-loop-v
+invariant-loop-v l = (l.off ≤ l.more) × (OffLeads l.lead l.off → OffLeads l.lead l.more)

@@ -3,4 +3,4 @@ use Rattle.questions.proofs.Leads.{off_walks}
 use Rattle.questions.proofs.lead.off_walks.Goals as goal
 
 pub returns : goal.returns
-returns c = off_walks _ _ _ _ c.leads.ensures c.off_leads.ensures
+returns c = off_walks _ _ _ c.leads.ensures c.off_leads.ensures

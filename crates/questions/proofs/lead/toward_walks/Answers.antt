@@ -3,4 +3,4 @@ use Rattle.questions.proofs.Leads.{toward_walks}
 use Rattle.questions.proofs.lead.toward_walks.Goals as goal
 
 pub returns : goal.returns
-returns c = toward_walks _ _ _ _ _ c.leads.ensures c.toward_leads.ensures
+returns c = toward_walks _ _ _ _ c.leads.ensures c.toward_leads.ensures

@@ -1,42 +1,40 @@
--- `walk::first_on` meets its contract: the zeros at the end of what a set lacks are nodes of the set, and the one above them is not. Assumes nothing.
-use Prim.Native.Nat.{ℕ, ◌-◌, ◌^◌, ◌≤◌, ◌<◌}
-use Rattle.lent.proofs.LabelWords.{trailing_below, trailing_at}
+-- `walk::first_on` meets its contract: the ones at the end of a set are its nodes, and the one above them is not. Assumes nothing.
+use Prim.Native.Nat.{ℕ, ◌+◌, ◌<◌}
+use Rattle.lent.proofs.Walking.{in_all}
 use Rattle.lent.specs.Nodes.{among}
-use Rattle.meaning.proofs.base.Bits.{bit_lt, bit_not}
-use Rattle.meaning.proofs.base.Order.{le_or_lt}
 use Rattle.meaning.specs.Labels.{bit}
-use Rattle.questions.specs.Moves.{Below}
-use borrow.Author.Rules.{rules}
-use borrow.Author.Tests.{eq-eqb, ne_eqb, eqb-true}
-use lib.Count.{count_trailing_zeros, trailing_le}
-use mathlib.Core.Bool.{false}
-use mathlib.Core.Logic.{⊎_elim}
-use mathlib.Core.Path.{◌≡◌}
+use Rattle.questions.specs.Moves.{Below, IsFirstOn}
+use Rattle.std.proofs.lemmas.Nat.Bits.{bit_at-trailing_ones}
+use Rattle.std.specs.Int.{trailing_ones}
+use Rattle.std.specs.Bool.{then_some}
+use borrow.Author.Tests.{eq-eqb, ne_eqb, ltb-true, ltb-false}
+use lib.Dec.{ltb}
+use lib.Count.{count_trailing_zeros}
+use mathlib.Core.Bool.{Bool, true, false}
+use mathlib.Core.Path.{◌≡◌, refl, sym}
+use mir.Syntax.{w16}
+use native.Mathlib.Decide.{dec_lt}
 use native.Mathlib.Omega.{arith}
 use Rattle.questions.proofs.walk.first_on.Goals as goal
 
--- the nodes that a set lacks
-abbrev lacks : ℕ → ℕ
-lacks nodes = 2 ^ 32 - 1 - nodes
+lowest : (off : ℕ) → off < 65536 → Below off (trailing_ones w16 off) × (among off (trailing_ones w16 off) ≡ false)
+unfolding count_trailing_zeros
+lowest off h = go (dec_lt (off + 1) 65536)
+  where
+    go : Dec (off + 1 < 65536) → Below off (trailing_ones w16 off) × (among off (trailing_ones w16 off) ≡ false)
+    go (yes l) =
+        let r = bit_at-trailing_ones w16 off l in
+        (λ x k. eq-eqb (bit off x) 1 (r.2 x k), ne_eqb (bit off (trailing_ones w16 off)) 1 (λ e. omega (arith, r.1, e)))
+    go (no n) =
+        let e : off ≡ 65535 = omega arith in
+        rw e (in_all, refl)
 
-module _ (nodes : ℕ) (h : nodes < 65536) where
-  in_below : Below nodes (count_trailing_zeros 32 (lacks nodes))
-  in_below x l =
-      let t = trailing_below 32 (lacks nodes) x l in
-      let q = bit_not 32 nodes x (omega arith) (omega (arith, trailing_le 32 (lacks nodes))) in
-      eq-eqb (bit nodes x) 1 (omega (arith, t, q, bit_lt nodes x))
-
-  at_most : count_trailing_zeros 32 (lacks nodes) ≤ 16
-  at_most = ⊎_elim (λ (l : count_trailing_zeros 32 (lacks nodes) ≤ 16). l) (λ (l : 16 < count_trailing_zeros 32 (lacks nodes)). omega (arith, eqb-true (bit nodes 16) 1 (in_below 16 l))) (le_or_lt (count_trailing_zeros 32 (lacks nodes)) 16)
-
-  not_there : count_trailing_zeros 32 (lacks nodes) < 16 → among nodes (count_trailing_zeros 32 (lacks nodes)) ≡ false
-  not_there l =
-      let t = trailing_at 32 (lacks nodes) (omega arith) in
-      let q = bit_not 32 nodes (count_trailing_zeros 32 (lacks nodes)) (omega arith) (omega arith) in
-      ne_eqb (bit nodes (count_trailing_zeros 32 (lacks nodes))) 1 (λ e. omega (arith, t, q, e))
+found : (b : Bool) (off v n : ℕ) → b ≡ ltb v n → Below off v × (among off v ≡ false) → IsFirstOn off n (then_some b v)
+unfolding IsFirstOn
+found true off v n e r = (ltb-true v n (sym e), r.0, r.1)
+found false off v n e r = λ x l. r.0 x (omega (arith, ltb-false v n (sym e)))
 
 pub returns : goal.returns
 returns c =
-    let off = c.args.off in
-    let h : off < 65536 = search rules in
-    (at_most off h, in_below off h, not_there off h)
+    let h : c.args.off < 65536 = omega arith in
+    rw c.then_some.ensures (found _ _ _ _ refl (rw c.trailing_ones-v.ensures (lowest c.args.off h)))

@@ -21,50 +21,50 @@ joined off nodes u v h e w =
     let more : Included nodes all = in_either nodes (1 * 2 ^ u % 65536) in
     (⊎_elim (more v) (λ (q : u ≡ v). sym (ap (among all) q) ∙ in_new nodes u h) e, λ x f. more x (w x f))
 
-pub loop-i-init : goal.loop-i-init
+pub loop-init : goal.loop-init
 unfolding after
-loop-i-init c = (omega arith, omega arith, refl, (λ k h. absurd (omega arith)), trail_start _ _ _ _ _ c.requires.4, inr refl, λ x e. e)
+loop-init c = (omega arith, refl, (λ k h. absurd (omega arith)), trail_start _ _ _ _ _ c.requires.1, inr refl, λ x e. e)
 
 pub returns-then-w-v : goal.returns-then-w-v
 unfolding IsLed IsSeen
 returns-then-w-v c =
-    let q = c.in-To.ensures in
-    back_now _ _ _ _ _ c.loop-i.invariant.2 _ _ (omega arith) q.0 c.if-w-v.true
+    let q = c.in-Some.ensures in
+    back_now _ _ _ _ _ c.loop.invariant.1 _ _ (omega arith) q.0 c.if-w-v.true
 
 pub overflow_shr-off : goal.overflow_shr-off
 unfolding IsLed
-overflow_shr-off c = c.in-To.ensures.1
+overflow_shr-off c = c.in-Some.ensures.1
 
 pub returns-then-off-w-eq1 : goal.returns-then-off-w-eq1
 unfolding IsLed IsSeen
 returns-then-off-w-eq1 c =
-    let q = c.in-To.ensures in
-    let off = c.requires.4.none_on _ (eq-eqb _ _ c.if-off-w-eq1.true) in
-    let to = trail_on _ _ _ _ _ (trail_here _ _ _ _ _ c.loop-i.invariant.1 c.loop-i.invariant.4) _ q.0 in
-    let j = joined c.args.off c.loop-i.passed c.loop-i.here c.args.v c.loop-i.invariant.1 c.loop-i.invariant.5 c.loop-i.invariant.6 in
+    let q = c.in-Some.ensures in
+    let off = c.requires.1.none_on _ (eq-eqb _ _ c.if-off-w-eq1.true) in
+    let to = trail_on _ _ _ _ _ (trail_here _ _ _ _ _ c.loop.invariant.0 c.loop.invariant.3) _ q.0 in
+    let j = joined c.args.off c.loop.passed c.loop.here c.args.v c.loop.invariant.0 c.loop.invariant.4 c.loop.invariant.5 in
     (trail_off _ _ _ _ _ to off, j.0, j.1)
 
-pub returns-in-Ended : goal.returns-in-Ended
+pub returns-in_default : goal.returns-in_default
 unfolding IsLed IsSeen
-returns-in-Ended c =
-    let q = c.in-Ended.ensures in
-    let to = trail_here _ _ _ _ _ c.loop-i.invariant.1 c.loop-i.invariant.4 in
-    let j = joined c.args.off c.loop-i.passed c.loop-i.here c.args.v c.loop-i.invariant.1 c.loop-i.invariant.5 c.loop-i.invariant.6 in
+returns-in_default c =
+    let q = c.in_default.ensures in
+    let to = trail_here _ _ _ _ _ c.loop.invariant.0 c.loop.invariant.3 in
+    let j = joined c.args.off c.loop.passed c.loop.here c.args.v c.loop.invariant.0 c.loop.invariant.4 c.loop.invariant.5 in
     (trail_off _ _ _ _ _ to (no_circle _ _ _ q _), j.0, j.1)
 
-pub loop-i-preserved : goal.loop-i-preserved
+pub loop-preserved : goal.loop-preserved
 unfolding IsLed
-loop-i-preserved c =
-    let q = c.in-To.ensures in
-    let b = not_back _ _ _ _ _ c.loop-i.invariant.2 c.loop-i.invariant.3 _ q.0 c.if-w-v.false in
-    let to = trail_on _ _ _ _ _ (trail_here _ _ _ _ _ c.loop-i.invariant.1 c.loop-i.invariant.4) _ q.0 in
-    let j = joined c.args.off c.loop-i.passed c.loop-i.here c.args.v c.loop-i.invariant.1 c.loop-i.invariant.5 c.loop-i.invariant.6 in
-    (omega arith, q.1, step_to _ _ _ _ _ c.loop-i.invariant.2 _ q.0, b, to, inl j.0, j.1)
+loop-preserved c =
+    let q = c.in-Some.ensures in
+    let b = not_back _ _ _ _ _ c.loop.invariant.1 c.loop.invariant.2 _ q.0 c.if-w-v.false in
+    let to = trail_on _ _ _ _ _ (trail_here _ _ _ _ _ c.loop.invariant.0 c.loop.invariant.3) _ q.0 in
+    let j = joined c.args.off c.loop.passed c.loop.here c.args.v c.loop.invariant.0 c.loop.invariant.4 c.loop.invariant.5 in
+    (q.1, step_to _ _ _ _ _ c.loop.invariant.1 _ q.0, b, to, inl j.0, j.1)
 
 pub returns : goal.returns
 unfolding IsSeen on_circle
 returns c =
-    let end : c.args.n ≤ c.loop-i.i = omega arith in
-    let to = trail_here _ _ _ _ _ c.requires.1 (trail_start _ _ _ _ _ c.requires.4) in
-    let j = joined c.args.off c.args.off c.args.v c.args.v c.requires.1 (inr refl) (λ x e. e) in
-    (trail_off _ _ _ _ _ to (none_below _ _ _ c.loop-i.invariant.3 end), j.0, j.1)
+    let end : c.args.hall.now.plan.nodes ≤ c.loop.counter = omega arith in
+    let to = trail_here _ _ _ _ _ c.requires.0.node (trail_start _ _ _ _ _ c.requires.1) in
+    let j = joined c.args.off c.args.off c.args.v c.args.v c.requires.0.node (inr refl) (λ x e. e) in
+    (trail_off _ _ _ _ _ to (none_below _ _ _ c.loop.invariant.2 end), j.0, j.1)

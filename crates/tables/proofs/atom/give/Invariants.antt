@@ -1,10 +1,10 @@
--- `atom::give` meets its contract. The loop's invariant: the owners at the nodes passed are given. Assumes nothing.
-use Prim.Native.Nat.{◌-◌, ◌≤◌}
+-- `atom::give` meets its contract. The loop's invariant: the owners at the nodes passed are given, and the state stays. Assumes nothing.
+use Rattle.meaning.specs.Box.{state_of}
 use Rattle.tables.proofs.Gives.{Giving}
+use mathlib.Core.Path.{◌≡◌}
 use Rattle.tables.proofs.atom.give.Given as goal
 
 abbrev pub invariant-loop-v : goal.invariant-loop-v
-invariant-loop-v l = (l.v ≤ 16) × Giving l.initial.label l.label l.initial.owner l.owner l.old.0 l.new.0 l.v
-
-abbrev pub decreases-loop-v : goal.decreases-loop-v
-decreases-loop-v l = 16 - l.v
+invariant-loop-v l =
+    let before = l.initial.hall in
+    (state_of l.hall ≡ state_of before) × Giving before.label l.hall.label before.owner l.hall.owner l.old.0 l.new.0 l.v

@@ -1,42 +1,39 @@
 -- `atom::make_boundary` meets its contract: b was a boundary, or it lies within the atom at its place, which is split. Assumes nothing.
-use Rattle.tables.proofs.Splits.{was_cut, inner, split_kept, kept_whole, split_made, made_whole}
-use borrow.Author.Rules.{rules}
+use Rattle.meaning.specs.Box.{state_of}
+use Rattle.tables.proofs.Splits.{was_one, Inner, inner, made_is, made_whole}
+use mathlib.Core.Path.{◌∙◌}
 use native.Mathlib.Omega.{arith}
 use Rattle.tables.proofs.atom.make_boundary.Goals as goal
+use Rattle.tables.proofs.atom.make_boundary.Goals.{After-atom_at-old}
 
-pub returns-then-cut-i : goal.returns-then-cut-i
-returns-then-cut-i c =
-    let q = c.place_of-p in
-    let e = was_cut c.args.cut.now c.args.n c.args.b q.result.0 q.ensures.0 c.if-cut-i.true in
-    record {
-      split = split_kept e c.requires.0.room;
-      whole = λ m ec ed en W. kept_whole m c.args.b ec en e W;
-    }
+pub returns-then-atoms-p-clause-state : goal.returns-then-atoms-p-clause-state
+returns-then-atoms-p-clause-state c = was_one (state_of c.args.hall.now) _ _ c.place_of-p.ensures.0 c.if-atoms-p.true
 
-pub insert_cut-requires : goal.insert_cut-requires
-insert_cut-requires c =
-    let f = c.requires in
-    let i = inner f.0 f.2 f.3 c.place_of-p.ensures.0 c.if-cut-i.false in
-    record { cuts = f.0; p_le_n = (omega (arith, i.place), i.room) }
+within : (c : After-atom_at-old) → Inner (state_of c.args.hall.now) c.args.b c.place_of-p.result.0
+within c = let f = c.requires in inner f.whole f.room.0 f.room.1 c.place_of-p.ensures.0 c.if-atoms-p.false
 
-pub insert_number-requires : goal.insert_number-requires
-insert_number-requires c =
-    let f = c.requires in
-    let i = inner f.0 f.2 f.3 c.place_of-p.ensures.0 c.if-cut-i.false in
-    record { numbers = f.1; p_le_n = (omega (arith, i.place), i.room) }
+pub insert_entry-requires : goal.insert_entry-requires
+insert_entry-requires c =
+    let i = within (goal.at.insert_entry-requires c).After-atom_at-old in
+    (omega (arith, i.place), omega (arith, i.room, c.requires.whole.sound.cuts.long))
+
+pub insert_entry-requires-2 : goal.insert_entry-requires-2
+insert_entry-requires-2 c =
+    let i = within (goal.at.insert_entry-requires-2 c).After-atom_at-old in
+    (omega (arith, i.place), omega (arith, i.room, c.requires.whole.sound.numbers.long))
 
 pub give-requires : goal.give-requires
 give-requires c =
-    let f = c.requires in
-    let i = inner f.0 f.2 f.3 c.place_of-p.ensures.0 c.if-cut-i.false in
-    let h = rw (← c.atom_at-old.ensures) at (f.1.small _ i.place) in
-    (omega (arith, h, i.room), i.room, λ e. omega (arith, h), search rules)
+    let i = within (goal.at.give-requires c).After-atom_at-old in
+    let h = c.requires.whole.sound.numbers.small _ i.place in
+    (omega (arith, c.atom_at-old.ensures, h, i.room), i.room, λ e. omega (arith, c.atom_at-old.ensures, h))
 
-pub returns : goal.returns
-returns c =
+pub returns-clause-state : goal.returns-clause-state
+returns-clause-state c =
     let f = c.requires in
-    let i = inner f.0 f.2 f.3 c.place_of-p.ensures.0 c.if-cut-i.false in
-    record {
-      split = split_made i c.insert_cut.ensures c.insert_number.ensures;
-      whole = λ m ec ed en W. made_whole m i ec ed en f.0 f.2 (rw c.atom_at-old.ensures at c.give.ensures) W;
-    }
+    c.give.ensures.state ∙ made_is f.whole f.room.0 (within (goal.at.returns-clause-state c).After-atom_at-old) c.insert_entry.ensures c.insert_entry-2.ensures
+
+pub returns-clause-whole : goal.returns-clause-whole
+returns-clause-whole c =
+    let f = c.requires in
+    made_whole f.whole f.room.0 (within (goal.at.returns-clause-whole c).After-atom_at-old) (returns-clause-state c) (rw c.atom_at-old.ensures at c.give.ensures.given)

@@ -1,11 +1,14 @@
 -- `rule::overlaps` meets its contract. Assumes nothing.
-use Rattle.tables.proofs.Rules.{overlaps_if, overlaps_not}
+use Rattle.meaning.specs.Rule.{overlap}
+use borrow.Author.Tests.{lt-ltb, le-ltb}
 use Rattle.tables.proofs.rule.overlaps.Goals as goal
 
 pub returns-then-lower_of-upper_of : goal.returns-then-lower_of-upper_of
+unfolding overlap
 returns-then-lower_of-upper_of c =
-    overlaps_if _ _ _ _ _ c.lower_of.ensures.0 c.upper_of.ensures.0 _ _ c.lower_of-then-lower_of-upper_of.ensures.0 c.upper_of-then-lower_of-upper_of.ensures.0 c.if-lower_of-upper_of.true
+    rw (← c.lower_of.ensures.0, ← c.upper_of.ensures.0, ← c.lower_of-then-lower_of-upper_of.ensures.0, ← c.upper_of-then-lower_of-upper_of.ensures.0, lt-ltb _ _ c.if-lower_of-upper_of.true)
 
-pub returns : goal.returns
-returns c =
-    overlaps_not _ _ _ _ _ c.lower_of.ensures.0 c.upper_of.ensures.0 c.if-lower_of-upper_of.false
+pub returns-else-lower_of-upper_of : goal.returns-else-lower_of-upper_of
+unfolding overlap
+returns-else-lower_of-upper_of c =
+    rw (← c.lower_of.ensures.0, ← c.upper_of.ensures.0, le-ltb _ _ c.if-lower_of-upper_of.false)

@@ -1,14 +1,13 @@
 -- `rule::stands_at` meets its contract. Assumes nothing.
-use Prim.Native.Nat.{ℕ, ◌/◌}
-use Rattle.tables.proofs.Rules.{not_standing, stands_there}
-use lib.ListN.{get_or}
-use mathlib.Core.Path.{ap, ◌∙◌}
+use Rattle.meaning.specs.Rule.{live}
+use Rattle.tables.specs.Gathered.{standing}
+use borrow.Author.Tests.{ne_eqb, eq-eqb}
 use Rattle.tables.proofs.rule.stands_at.Goals as goal
 
-pub returns-then-x-eq0 : goal.returns-then-x-eq0
-returns-then-x-eq0 c = not_standing _ _ _ _ c.if-x-eq0.true
+pub returns-then-x-ne0 : goal.returns-then-x-ne0
+unfolding standing live
+returns-then-x-ne0 c = rw (ne_eqb c.args.x 0 c.if-x-ne0.true, c.source_of.ensures.0, c.link_of.ensures.0)
 
-pub returns : goal.returns
-returns c =
-    stands_there _ _ _ _ c.if-x-eq0.false _
-    (c.source_of.ensures.0 ∙ ap (λ (l : ℕ). get_or c.args.link.now l 0 / 1024) c.link_of.ensures.0)
+pub returns-else-x-ne0 : goal.returns-else-x-ne0
+unfolding standing live
+returns-else-x-ne0 c = rw (eq-eqb c.args.x 0 c.if-x-ne0.false)

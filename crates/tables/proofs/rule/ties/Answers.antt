@@ -1,21 +1,17 @@
--- `rule::ties` meets its contract. The loop's invariant: none of the rules below i ties. Assumes nothing.
-use Rattle.meaning.proofs.base.Search.{any_true, any_none, any_more}
-use Rattle.tables.proofs.Rules.{ties_nowhere}
+-- `rule::ties` meets its contract: no word ties where none has the rank, and else the search tells. Assumes nothing.
+use Rattle.meaning.specs.Hall.{ipv4}
+use Rattle.std.proofs.lemmas.Iterator.{YieldsList-from_slice}
+use Rattle.std.proofs.lemmas.Iterator.Search.{any_from_yields_List}
+use Rattle.tables.proofs.Rules.{any_listed, ties_nowhere}
+use Rattle.tables.specs.Gathered.{tying}
 use borrow.Author.Rules.{rules}
-use mathlib.Core.Bool.{◌||◌}
-use mathlib.Core.Path.{sym, ap₂, ◌∙◌}
-use native.Mathlib.Omega.{arith}
+use mathlib.Core.Path.{sym, ◌∙◌}
 use Rattle.tables.proofs.rule.ties.Goals as goal
 
-pub returns-then-lacks_rank : goal.returns-then-lacks_rank
-returns-then-lacks_rank c = ties_nowhere _ _ c.args.rule.now _ _ (c.lacks_rank.ensures c.if-lacks_rank.true)
+pub returns-then-has_rank : goal.returns-then-has_rank
+returns-then-has_rank c =
+    any_from_yields_List (tying ipv4 c.args.hall.now.plan.link c.args.v c.args.w) _ _ c.any.result c.any.ensures.ran (YieldsList-from_slice c.args.hall.now.rule c.iter.ensures.rest) (λ x b q k. search rules)
+    ∙ any_listed _ c.args.hall.now.rule 256 (search rules)
 
-pub loop-i-init : goal.loop-i-init
-loop-i-init c = (search rules, any_none _)
-
-pub returns-then-ties_with : goal.returns-then-ties_with
-returns-then-ties_with c =
-    sym (any_true _ 256 c.loop-i.i (omega arith) (sym c.ties_with.ensures ∙ c.if-ties_with.true))
-
-pub loop-i-preserved : goal.loop-i-preserved
-loop-i-preserved c = (search rules, any_more _ _ ∙ ap₂ ◌||◌ c.loop-i.invariant.1 (sym c.ties_with.ensures ∙ c.if-ties_with.false))
+pub returns-else-has_rank : goal.returns-else-has_rank
+returns-else-has_rank c = c.if-has_rank.false ∙ ties_nowhere _ _ c.args.hall.now.rule _ _ (search rules) (sym c.has_rank.ensures ∙ c.if-has_rank.false)

@@ -1,187 +1,172 @@
 -- `tables::update::insert` meets its contract: the rule's ends are made boundaries, so that the sweep over the places between them gives its node
 -- to the rule where it has the highest rank. Assumes nothing.
-use Prim.Native.Nat.{ℕ, ◌+◌, ◌*◌, ◌^◌, ◌<◌}
+use Prim.Native.Nat.{ℕ, ◌+◌, ◌*◌, ◌^◌, ◌≤◌, ◌<◌}
 use Rattle.lent.proofs.OwnerRules.{Spans, rule_spans, node_small}
-use Rattle.lent.specs.Owners.{Whole}
+use Rattle.lent.specs.Owners.{WholeBy}
 use Rattle.meaning.proofs.records.Checks.{Clear, clear}
 use Rattle.meaning.proofs.records.Fields.{Sized}
+use Rattle.meaning.proofs.rules.Covers.{SameRules}
 use Rattle.meaning.proofs.rules.Words.{RuleFits, link_of_lem}
 use Rattle.meaning.proofs.sound.Kept.{rule_fits, RoomForEnds, room_for, room_lower, room_upper}
 use Rattle.meaning.proofs.sound.OneRule.{Joined, comes}
 use Rattle.meaning.specs.Atoms.{place_of, with_cut, is_boundary}
 use Rattle.meaning.specs.Box.{state_of}
+use Rattle.meaning.specs.declared.hall.Hall.{Hall}
+use Rattle.meaning.specs.declared.hall.Phase.TheVariants.{Closed}
+use Rattle.meaning.specs.declared.hall.Rule.{Rule}
 use Rattle.meaning.specs.Hall.{ipv4, State, source_of}
 use Rattle.meaning.specs.Records.{Update, insert}
 use Rattle.meaning.specs.Rule.{rule_word, link_of, rank, lower, upper}
-use Rattle.meaning.specs.Step.{with_rule, inserted, updated, node_of}
-use Rattle.tables.proofs.Updated.{cut_as, split_is, split_whole, numbered, ready, listed_as, taken_in}
-use Rattle.tables.specs.Rows.{Split}
+use Rattle.meaning.specs.Step.{update_refusal, with_rule, inserted, updated, node_of}
+use Rattle.tables.proofs.Updated.{numbered_at, ready, listed_as, taken_in}
 use mathlib.Core.Bool.{false}
-use mathlib.Core.List.{List}
+use mathlib.Core.Option.{none}
 use mathlib.Core.Path.{◌≡◌, refl, sym, ap, ◌∙◌, subst⁻¹}
+use borrow.Author.Rules.{rules}
 use native.Mathlib.Omega.{arith}
 use Rattle.tables.proofs.update.insert.Goals as goal
-use Rattle.tables.proofs.update.insert.Goals.{Start, After-make_boundary-n}
-
--- ---- a boundary made: state o is m with a boundary at b
-
-record Made (m o : State) (b : ℕ) (label owner : List ℕ) : Type 0 where
-  is : o ≡ with_cut m b
-  whole : Whole o label owner
-
-made : (m : State) {b d n : ℕ} {cut number label label' owner owner' : List ℕ} → b ≡ d → Whole m label owner
-    → Split m.atoms.cut m.atoms.number m.atoms.count b cut number n
-    → ((o : State) → o.atoms.cut ≡ m.atoms.cut → o.atoms.number ≡ m.atoms.number → o.atoms.count ≡ m.atoms.count → Whole o label owner → Whole (with_cut o b) label' owner')
-    → Made m (cut_as m cut number n) d label' owner'
-made m e W s f = record { is = split_is m _ s ∙ ap (with_cut m) e; whole = split_whole m _ s (f m refl refl refl W) }
+use Rattle.tables.proofs.update.insert.Goals.{Start, After-place_of-t}
 
 -- ---- at the call
 
-module _ (c : Start) where
+-- what is known of the hall, the rule's number and the rule
+record Call (h : Hall) (r : ℕ) (x : Rule) : Type 0 where
+  whole : WholeBy h
+  phase : h.plan.phase ≡ Closed
+  passes : update_refusal (state_of h) (insert r x.link x.prefix x.length x.priority) ≡ none
+  sized : Sized ipv4 x.link x.prefix x.priority
+
+call : (c : Start) → Call c.args.hall.now c.args.r c.args.x
+call c = record {
+  whole = c.requires.whole;
+  phase = c.requires.phase;
+  passes = c.requires.passes;
+  sized = record { link = omega arith; prefix = omega arith; priority = omega arith };
+}
+
+module _ {h : Hall} {r : ℕ} {x : Rule} (A : Call h r x) where
   -- the state, the record and the new rule's word
   abbrev state : State
-  state = state_of c.args.h c.args.link.now c.args.rule.now c.args.cut.now c.args.number.now
+  state = state_of h
 
   abbrev asked : Update
-  asked = insert c.args.r c.args.x.link c.args.x.prefix c.args.x.length c.args.x.priority
+  asked = insert r x.link x.prefix x.length x.priority
 
   abbrev word : ℕ
-  word = rule_word ipv4 c.args.x.link c.args.x.prefix c.args.x.length c.args.x.priority
+  word = rule_word ipv4 x.link x.prefix x.length x.priority
 
-  sized : Sized ipv4 c.args.x.link c.args.x.prefix c.args.x.priority
-  sized = record { link = omega arith; prefix = omega arith; priority = omega arith }
-
-  passed : Clear state c.args.r c.args.x.link c.args.x.prefix c.args.x.length c.args.x.priority
-  passed = clear state c.args.r c.args.x.link c.args.x.prefix c.args.x.length c.args.x.priority c.requires.phase_value.1
+  passed : Clear state r x.link x.prefix x.length x.priority
+  passed = clear state r x.link x.prefix x.length x.priority A.passes
 
   room : RoomForEnds state word
-  room = room_for state c.requires.whole.sound sized passed
+  room = room_for state A.whole.sound A.sized passed
 
-  fits : RuleFits ipv4 c.args.x.link c.args.x.prefix c.args.x.length c.args.x.priority
-  fits = rule_fits c.requires.whole.sound sized passed
+  fits : RuleFits ipv4 x.link x.prefix x.length x.priority
+  fits = rule_fits A.whole.sound A.sized passed
 
-  mine_fits : c.args.x.link * 512 + c.args.r + 1 < 2 ^ 16
-  mine_fits = omega (arith, passed.number, fits.link)
+  mine_is : x.link * 512 + (r + 1) ≡ link_of ipv4 word * 512 + (r + 1)
+  mine_is = ap (λ (k : ℕ). k * 512 + (r + 1)) (sym (link_of_lem fits))
 
-  mine_is : c.args.x.link * 512 + c.args.r + 1 ≡ link_of ipv4 word * 512 + (c.args.r + 1)
-  mine_is = omega (arith, link_of_lem fits)
+  low_room : {low : ℕ} → low ≡ lower ipv4 word → (low ≤ 2 ^ ipv4) × (is_boundary state low ≡ false → h.atoms.count < 512)
+  low_room low_is = let below = room.lower_top in (
+    omega (arith, low_is, below),
+    λ e. room_lower state A.whole.sound word room (sym (ap (is_boundary state) low_is) ∙ e),
+  )
 
-pub bounds-link-l : goal.bounds-link-l
-bounds-link-l c = (fits (goal.at.bounds-link-l c).Start).link
+  -- after the first boundary
+  high_room : (m : State) {high : ℕ} → m ≡ with_cut state (lower ipv4 word) → high ≡ upper ipv4 word → (high ≤ 2 ^ ipv4) × (is_boundary m high ≡ false → m.atoms.count < 512)
+  high_room m one high_is =
+      let below = room.upper_top in
+      let free = subst⁻¹ (λ (o : State). is_boundary o (upper ipv4 word) ≡ false → o.atoms.count < 512) one (room_upper state A.whole.sound word room) in
+      (omega (arith, high_is, below), λ e. free (sym (ap (is_boundary m) high_is) ∙ e))
 
-pub pack-w-requires : goal.pack-w-requires
-pack-w-requires c = let s = (goal.at.pack-w-requires c).Start in ((fits s).link, (fits s).long)
+-- ---- once the node and the places are known
 
-pub make_boundary-first-requires : goal.make_boundary-first-requires
-make_boundary-first-requires c =
-    let s = (goal.at.make_boundary-first-requires c).Start in
-    let S = c.requires.whole.sound in
-    let below = (room s).lower_top in
-    let low_is = c.lower_of-low.ensures.0 ∙ ap (lower ipv4) c.pack-w.ensures in (
-      S.cuts,
-      S.numbers,
-      omega (arith, low_is, below),
-      λ h. room_lower (state s) S (word s) (room s) (sym (ap (is_boundary (state s)) low_is) ∙ h),
-      c.requires.whole.owned.long,
-    )
+module _ (c : After-place_of-t) (A : Call c.args.hall.now c.args.r c.args.x) where
+  -- the state with both boundaries
+  abbrev cut : State
+  cut = state_of c.make_boundary-2.new.hall
 
-pub make_boundary-n-requires : goal.make_boundary-n-requires
-make_boundary-n-requires c =
-    let s = (goal.at.make_boundary-n-requires c).Start in
-    let low_is = c.lower_of-low.ensures.0 ∙ ap (lower ipv4) c.pack-w.ensures in
-    let high_is = c.upper_of-high.ensures.0 ∙ ap (upper ipv4) c.pack-w.ensures in
-    let one = made (state s) low_is c.requires.whole c.make_boundary-first.ensures.split c.make_boundary-first.ensures.whole in
-    let m = cut_as (state s) c.make_boundary-first.new.cut c.make_boundary-first.new.number c.make_boundary-first.result in
-    let free = subst⁻¹ (λ (o : State). is_boundary o (upper ipv4 (word s)) ≡ false → o.atoms.count < 512) one.is (room_upper (state s) c.requires.whole.sound (word s) (room s)) in
-    let below = (room s).upper_top in (
-      one.whole.sound.cuts,
-      one.whole.sound.numbers,
-      omega (arith, high_is, below),
-      λ h. free (sym (ap (is_boundary m) high_is) ∙ h),
-      one.whole.owned.long,
-    )
-
--- ---- both ends are boundaries
-
-module _ (c : After-make_boundary-n) where
-  abbrev s : Start
-  s = (goal.at.place_of-f-requires c).Start
-
-  low_is : c.lower_of-low.result ≡ lower ipv4 (word s)
+  low_is : c.lower_of-low.result ≡ lower ipv4 (word A)
   low_is = c.lower_of-low.ensures.0 ∙ ap (lower ipv4) c.pack-w.ensures
 
-  high_is : c.upper_of-high.result ≡ upper ipv4 (word s)
+  high_is : c.upper_of-high.result ≡ upper ipv4 (word A)
   high_is = c.upper_of-high.ensures.0 ∙ ap (upper ipv4) c.pack-w.ensures
 
-  abbrev one : State
-  one = cut_as (state s) c.make_boundary-first.new.cut c.make_boundary-first.new.number c.make_boundary-first.result
+  cut_is : cut ≡ with_cut (with_cut (state A) (lower ipv4 (word A))) (upper ipv4 (word A))
+  cut_is = rw (← low_is, ← high_is) (c.make_boundary-2.ensures.state ∙ ap (λ (m : State). with_cut m c.upper_of-high.result) c.make_boundary.ensures.state)
 
-  abbrev two : State
-  two = cut_as (state s) c.make_boundary-n.new.cut c.make_boundary-n.new.number c.make_boundary-n.result
+  left_is : with_rule cut c.args.r (word A) ≡ updated (state A) (asked A)
+  unfolding updated inserted
+  left_is = ap (λ (m : State). with_rule m c.args.r (word A)) cut_is
 
-  made_one : Made (state s) one (lower ipv4 (word s)) c.make_boundary-first.new.label c.make_boundary-first.new.owner
-  made_one = made (state s) low_is c.requires.whole c.make_boundary-first.ensures.split c.make_boundary-first.ensures.whole
+  same : SameRules (state A) cut
+  unfolding with_cut
+  same = subst⁻¹ (λ (m : State). SameRules (state A) m) cut_is (record { width = refl; rule = refl; link = refl })
 
-  made_two : Made one two (upper ipv4 (word s)) c.make_boundary-n.new.label c.make_boundary-n.new.owner
-  made_two = made one high_is made_one.whole c.make_boundary-n.ensures.split c.make_boundary-n.ensures.whole
-
-  two_is : two ≡ with_cut (with_cut (state s) (lower ipv4 (word s))) (upper ipv4 (word s))
-  two_is = made_two.is ∙ ap (λ (m : State). with_cut m (upper ipv4 (word s))) made_one.is
-
-  abbrev node : ℕ
-  node = c.source_of-v.result
-
-  node_is : node ≡ node_of (state s) (asked s)
+  node_is : c.source_of-v.result ≡ node_of (state A) (asked A)
   unfolding node_of source_of
   node_is = c.source_of-v.ensures.0
 
-  joined : Joined two (with_rule two c.args.r (word s)) c.args.r (word s) node
-  joined = comes (state s) c.args.r _ _ _ _ c.requires.whole.sound (sized s) c.requires.phase_value.0 c.requires.phase_value.1 two two_is made_two.whole.sound node node_is
-
-  left_is : with_rule two c.args.r (word s) ≡ updated (state s) (asked s)
-  unfolding updated inserted
-  left_is = ap (λ (m : State). with_rule m c.args.r (word s)) two_is
+  joined : Joined cut (with_rule cut c.args.r (word A)) c.args.r (word A) c.source_of-v.result
+  joined = comes (state A) c.args.r _ _ _ _ A.whole.sound A.sized A.phase A.passes cut cut_is c.make_boundary-2.ensures.whole.sound _ node_is
 
   -- the places between them
-  spans : (f t : ℕ) → f ≡ place_of two.atoms.cut two.atoms.count c.lower_of-low.result → t ≡ place_of two.atoms.cut two.atoms.count c.upper_of-high.result
-      → Spans ipv4 two.atoms.cut two.atoms.count (word s) f t
+  spans : Spans ipv4 cut.atoms.cut cut.atoms.count (word A) c.place_of-f.result.0 c.place_of-t.result.0
   unfolding with_rule
-  spans f t d e = let at = place_of two.atoms.cut two.atoms.count in rule_spans joined (d ∙ ap at low_is) (e ∙ ap at high_is)
+  spans = let at = place_of cut.atoms.cut cut.atoms.count in rule_spans joined (c.place_of-f.ensures.0 ∙ ap at low_is) (c.place_of-t.ensures.0 ∙ ap at high_is)
 
-pub place_of-f-requires : goal.place_of-f-requires
-place_of-f-requires c = (made_two c).whole.sound.cuts
+-- ---- the goals
 
-pub place_of-t-requires : goal.place_of-t-requires
-place_of-t-requires c = (made_two (goal.at.place_of-t-requires c).After-make_boundary-n).whole.sound.cuts
+pub bounds-hall-x : goal.bounds-hall-x
+bounds-hall-x c = (fits (call (goal.at.bounds-hall-x c).Start)).link
 
-pub overflow_mul-mine : goal.overflow_mul-mine
-overflow_mul-mine c = omega (arith, mine_fits (goal.at.overflow_mul-mine c).Start)
+pub pack-w-requires : goal.pack-w-requires
+pack-w-requires c = let A = call (goal.at.pack-w-requires c).Start in ((fits A).link, (fits A).long)
 
-pub overflow_add-mine : goal.overflow_add-mine
-overflow_add-mine c = omega (arith, mine_fits (goal.at.overflow_add-mine c).Start)
+pub make_boundary-requires-clause-room : goal.make_boundary-requires-clause-room
+make_boundary-requires-clause-room c =
+    let A = call (goal.at.make_boundary-requires-clause-room c).Start in
+    low_room A (c.lower_of-low.ensures.0 ∙ ap (lower ipv4) c.pack-w.ensures)
 
-pub overflow_add-mine-2 : goal.overflow_add-mine-2
-overflow_add-mine-2 c = omega (arith, mine_fits (goal.at.overflow_add-mine-2 c).Start)
+pub make_boundary-requires-2-clause-room : goal.make_boundary-requires-2-clause-room
+make_boundary-requires-2-clause-room c =
+    let A = call (goal.at.make_boundary-requires-2-clause-room c).Start in
+    let low_is = c.lower_of-low.ensures.0 ∙ ap (lower ipv4) c.pack-w.ensures in
+    high_room A _ (c.make_boundary.ensures.state ∙ ap (with_cut (state A)) low_is) (c.upper_of-high.ensures.0 ∙ ap (upper ipv4) c.pack-w.ensures)
 
-pub take_over-listed-requires : goal.take_over-listed-requires
-take_over-listed-requires c =
-    let b = (goal.at.take_over-listed-requires c).After-make_boundary-n in
-    let p = spans b _ _ c.place_of-f.ensures.0 c.place_of-t.ensures.0 in
-    (ready (made_two b).whole (node_small (joined b)) p c.requires.phase_value.2, numbered (two b) _ _ (made_two b).whole)
+pub owner_of-mine-requires : goal.owner_of-mine-requires
+owner_of-mine-requires c = let A = call (goal.at.owner_of-mine-requires c).Start in ((fits A).link, (passed A).number)
 
-pub bounds-rule-r : goal.bounds-rule-r
-bounds-rule-r c = (passed (goal.at.bounds-rule-r c).Start).number
+pub sweep-listed-requires-clause-ready : goal.sweep-listed-requires-clause-ready
+sweep-listed-requires-clause-ready c =
+    let p = (goal.at.sweep-listed-requires-clause-ready c).After-place_of-t in
+    let A = call (goal.at.sweep-listed-requires-clause-ready c).Start in
+    ready c.make_boundary-2.ensures.whole (node_small (joined p A)) (spans p A) c.requires.room
 
-pub returns : goal.returns
+pub sweep-listed-requires-clause-callable : goal.sweep-listed-requires-clause-callable
+sweep-listed-requires-clause-callable c = λ q a b.
+    let p = (goal.at.sweep-listed-requires-clause-callable c).After-place_of-t in
+    let A = call (goal.at.sweep-listed-requires-clause-callable c).Start in
+    let n = numbered_at c.make_boundary-2.ensures.whole (node_small (joined p A)) (spans p A) q b in
+    search (rules, n)
+
+pub bounds-hall-r : goal.bounds-hall-r
+bounds-hall-r c = (passed (call (goal.at.bounds-hall-r c).Start)).number
+
+pub returns-clause-state : goal.returns-clause-state
 unfolding with_rule
-returns c =
-    let b = (goal.at.returns c).After-make_boundary-n in
-    let z = s b in
-    let r = c.args.r in
-    let p = spans b _ _ c.place_of-f.ensures.0 c.place_of-t.ensures.0 in
+returns-clause-state c =
+    let p = (goal.at.returns-clause-state c).After-place_of-t in
+    let A = call (goal.at.returns-clause-state c).Start in
+    ap (with_rule (cut p A) c.args.r) c.pack-w.ensures ∙ left_is p A
+
+pub returns-clause-listed : goal.returns-clause-listed
+unfolding with_rule
+returns-clause-listed c =
+    let p = (goal.at.returns-clause-listed c).After-place_of-t in
+    let A = call (goal.at.returns-clause-listed c).Start in
     let k = c.rank_of-rank.ensures.0 ∙ ap (rank ipv4) c.pack-w.ensures in
-    record {
-      number_after = ap (with_rule (two b) r) c.pack-w.ensures ∙ left_is b;
-      listed = listed_as (left_is b) (node_is b)
-          (taken_in (two b) r (word z) (node b) _ _ (made_two b).whole p _ (mine_is z) (joined b) (state z) (record { width = refl; rule = refl; link = refl }) _ k c.take_over-listed.ensures);
-    }
+    listed_as (left_is p A) (node_is p A)
+    (taken_in (cut p A) c.args.r (word A) _ _ _ c.make_boundary-2.ensures.whole (spans p A) _ (c.owner_of-mine.ensures ∙ mine_is A) c.sweep-listed.ensures (joined p A) (state A) (same p A) _ k
+    (λ q e a b p. search rules))

@@ -1,7 +1,0 @@
--- `print::line::put_start` meets its contract. Assumes nothing.
-use Rattle.print.proofs.Writes.{both}
-use Rattle.print.proofs.line.put_start.Goals as goal
-
-pub returns : goal.returns
-returns c =
-    both c.put_number-next.ensures c.put_text.ensures
