@@ -13,7 +13,7 @@ pub enum Phase {
 }
 
 // What the set-up records say: how many nodes and links there are, and the links by number, a word each.
-#[derive(Drop)]
+#[derive(Clone, Copy)]
 pub struct Plan {
     pub phase: Phase,
     pub nodes: u8,
@@ -22,7 +22,7 @@ pub struct Plan {
 }
 
 // How many atoms there are, and their boundaries and numbers by rising address.
-#[derive(Drop)]
+#[derive(Clone, Copy)]
 pub struct Atoms {
     pub count: u16,
     pub cut: [u64; 513],
@@ -30,8 +30,8 @@ pub struct Atoms {
 }
 
 // All that a hall keeps, in tables of a fixed size that the caller lends: beside its state (the plan, the rules by number, a word each, and the atoms)
-// the labels and the owners, which the state determines.
-#[derive(Drop)]
+// the labels and the owners, which the state determines. A caller may copy a hall, to go back to it; the box itself copies none.
+#[derive(Clone, Copy)]
 pub struct Hall {
     pub plan: Plan,
     pub rule: [u64; 256],
