@@ -24,7 +24,7 @@ pub fn place_of(atoms: &Atoms, a: u64) -> Place
     ensures { (result.0 ≡ place_of atoms.now.cut atoms.now.count a) × (result.0 ≤ atoms.now.count) }
 {
     let n = atoms.count as usize;
-    Place(atoms.cut[..n + 1].partition_point(|low| *low <= a) - 1)
+    Place(atoms.cut[1..n + 1].partition_point(|low| *low <= a))
 }
 
 // The atom at a place, and past the last place the atom 0. Nothing else leads from a place to its atom.
