@@ -86,12 +86,20 @@ impl Out {
         self.bytes.len() - self.length < print::ROOM
     }
 
+    // Makes room for a line: where there is too little, all lines are written out.
+    fn make_room(&mut self, rt: &impl Print) -> io::Result<()>
+        ensures { IfOk result (λ done. length self.new + 128 ≤ 65536) }
+    {
+        if self.is_full() {
+            self.write_out(rt)?;
+        }
+        Ok(())
+    }
+
     // A line for each entry of the change list, of five words each.
     fn print_changes(&mut self, rt: &impl Print, list: &[u64]) -> io::Result<()> {
         for entry in list.chunks_exact(5) {
-            if self.is_full() {
-                self.write_out(rt)?;
-            }
+            self.make_room(rt)?;
             self.length = print::put_change(
                 &mut self.bytes,
                 self.length,
@@ -118,9 +126,7 @@ impl Out {
         if matches!(answer, Answer::End) {
             return Ok(());
         }
-        if self.is_full() {
-            self.write_out(rt)?;
-        }
+        self.make_room(rt)?;
         self.length = print::put_line(&mut self.bytes, self.length, place, answer);
         self.print_changes(rt, &list[..entries_of(answer) * 5])
     }
