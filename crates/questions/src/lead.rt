@@ -1,6 +1,7 @@
 // Which node leads to which by a link that has any atom at all: what no atom's walk can do is seen here for all atoms at once.
-ghost use Rattle.std.specs.Prelude.{◌≡◌, false, ℕ, ◌+◌, ◌<◌, ◌≤◌};
+ghost use Rattle.std.specs.Prelude.{◌≡◌, false, ℕ, ◌+◌, ◌<◌};
 ghost use Rattle.questions.specs.Leads.{Empty, Leads, LetLead, Grown, OffLeads, Met, Widened, TowardLeads, OffWalks, TowardWalks};
+ghost use Rattle.questions.specs.Moves.{Included};
 
 use meaning::Hall;
 
@@ -54,7 +55,7 @@ fn leads(hall: &Hall) -> [Nodes; 16]
 // Goes on from a set of nodes to a larger one by `step`, until it stays as it is.
 fn settle<F: Fn(Nodes) -> Nodes>(start: Nodes, step: F) -> Nodes
     requires callable { F.IsAlwaysCallable step }
-    requires grows { (x y : ℕ) → F.post step x y → x ≤ y }
+    requires grows { (x y : ℕ) → F.post step x y → Included x y }
     ensures from { Grown (F.post step) start result }
     ensures settled { F.post step result result }
 {
@@ -70,7 +71,7 @@ fn settle<F: Fn(Nodes) -> Nodes>(start: Nodes, step: F) -> Nodes
 
 // Of the nodes that lie on no circle of leads, more: those that lead to none but such nodes.
 fn off_ahead(lead: &[Nodes; 16], off: Nodes) -> Nodes
-    ensures grows { off ≤ result }
+    ensures grows { Included off result }
     ensures keeps { OffLeads lead.now off → OffLeads lead.now result }
 {
     let mut more = off;
@@ -97,7 +98,7 @@ fn led_to(lead: &[Nodes; 16], off: Nodes) -> Nodes
 
 // Of the nodes that lie on no circle of leads, more: those to which none but such nodes lead.
 fn off_behind(lead: &[Nodes; 16], off: Nodes) -> Nodes
-    ensures grows { off ≤ result }
+    ensures grows { Included off result }
     ensures keeps { OffLeads lead.now off → OffLeads lead.now result }
 {
     off | !led_to(lead, off)
@@ -120,8 +121,7 @@ pub fn off_walks(hall: &Hall) -> Nodes
 
 // The nodes of `to`, and those that lead to one of them.
 fn toward_once(lead: &[Nodes; 16], to: Nodes) -> Nodes
-    ensures grows { to ≤ result }
-    ensures widened { Widened lead.now to 16 result }
+    ensures { Widened lead.now to 16 result }
 {
     let mut more = to;
     for (v, leads_to) in lead.iter().enumerate() {

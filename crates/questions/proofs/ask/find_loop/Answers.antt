@@ -1,38 +1,17 @@
 -- `ask::find_loop` meets its contract. The outer loop's invariant: no loop is found, and at no place below p a node lies on a circle.
--- The inner loop's: nor does a node of `off`, of the atom at place p; and with each look `off` has one more. Assumes nothing.
-use Prim.Native.Nat.{ℕ, ◌<◌}
+-- The inner loop's: nor does a node of `off`, of the atom at place p; and with each look `off` lacks fewer nodes. Assumes nothing.
+use Prim.Native.Nat.{ℕ}
 use Rattle.lent.proofs.Questions.{NoCircle, small_atom, loop_none, loop_is}
-use Rattle.lent.specs.Nodes.{among, Off}
-use Rattle.meaning.proofs.base.Bits.{bit_lt}
-use Rattle.meaning.specs.Labels.{bit}
+use Rattle.lent.specs.Nodes.{Off}
 use Rattle.questions.proofs.Leads.{together, no_loop}
+use Rattle.questions.proofs.Missing.{fewer}
 use Rattle.questions.proofs.Moves.{stands_at}
-use Rattle.questions.specs.Moves.{IsFirstOn, IsSeen, Below, Included}
-use Rattle.std.proofs.lemmas.Nat.{le_or_l}
-use Rattle.std.proofs.lemmas.Nat.Bits.{bit_at_or, same_from_bits}
+use Rattle.questions.specs.Moves.{IsFirstOn, IsSeen, Below}
 use borrow.Author.Count.{below_more}
-use borrow.Author.Tests.{eq-eqb, eqb-true}
-use lib.Bits.{bit_or}
-use mathlib.Core.Bool.{true, false, true≢false}
 use mathlib.Core.Option.{Option}
-use mathlib.Core.Path.{◌≡◌, sym, ap, ◌∙◌}
-use native.Mathlib.Decide.{ℕ_discrete}
+use mathlib.Core.Path.{sym, ◌∙◌}
 use native.Mathlib.Omega.{arith}
 use Rattle.questions.proofs.ask.find_loop.Goals as goal
-
--- a set that has all of another, and v besides, is a larger number
-larger : (off more v : ℕ) → Included off more → among more v ≡ true → among off v ≡ false → off < more
-larger off more v w e f =
-    let all : bit_or off more ≡ more = same_from_bits _ _ each in
-    let differ : off ≡ more → ⊥ = λ q. true≢false (sym e ∙ ap (λ x. among x v) (sym q) ∙ f) in
-    omega (arith, le_or_l off more, all, differ)
-  where
-    each : (i : ℕ) → bit (bit_or off more) i ≡ bit more i
-    each i = go (ℕ_discrete (bit off i) 1)
-      where
-        go : Dec (bit off i ≡ 1) → bit (bit_or off more) i ≡ bit more i
-        go (yes q) = omega (arith, bit_at_or off more i, eqb-true (bit more i) 1 (w i (eq-eqb (bit off i) 1 q)), q)
-        go (no n) = omega (arith, bit_at_or off more i, bit_lt off i, n)
 
 -- where the nodes of `off` lie on no circle, and every node below v is one of them
 clear : (next : ℕ → Option ℕ) (end : ℕ → ℕ) (n off v : ℕ) → Off next end n off → Below off v → NoCircle next end n v
@@ -54,9 +33,9 @@ look-requires c =
 pub loop-v-smaller : goal.loop-v-smaller
 unfolding IsFirstOn IsSeen
 loop-v-smaller c =
+    let first = c.in-Some.ensures in
     let seen = c.in-Some-look.ensures in
-    let l = larger _ _ _ seen.2 seen.1 c.in-Some.ensures.2 in
-    omega arith
+    fewer _ _ seen.2 _ _ (omega (arith, first.0)) first.2 seen.1
 
 pub loop-v-preserved : goal.loop-v-preserved
 unfolding IsSeen

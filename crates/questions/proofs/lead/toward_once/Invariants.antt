@@ -1,7 +1,6 @@
 -- `lead::toward_once` meets its contract. The loop's invariant: `more` has each node below v that leads to one of `to`. Assumes nothing.
-use Prim.Native.Nat.{◌≤◌}
 use Rattle.questions.specs.Leads.{Widened}
 use Rattle.questions.proofs.lead.toward_once.Given as goal
 
 abbrev pub invariant-loop-v : goal.invariant-loop-v
-invariant-loop-v l = (l.to ≤ l.more) × Widened l.lead l.to l.v l.more
+invariant-loop-v l = Widened l.lead l.to l.v l.more
