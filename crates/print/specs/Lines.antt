@@ -38,6 +38,10 @@ values (n ∷ ns) = 32 ∷ (decimal n ++ values ns)
 unfoldable pub line : ℕ → Answer → List ℕ
 line place a = decimal place ++ (32 ∷ (word (said a).word ++ values (said a).values))
 
+-- A REFUSAL'S LINE by any number
+unfoldable pub refusal_line : ℕ → ℕ → List ℕ
+refusal_line place n = decimal place ++ (32 ∷ (word refused ++ values (n ∷ [])))
+
 -- a link, or - where there is none
 unfoldable pub link_text : ℕ → List ℕ
 link_text l = pick (eqb l no_link) (bytes "-") (decimal l)

@@ -4,7 +4,7 @@
 mod line;
 mod number;
 
-pub use line::{put_change, put_line};
+pub use line::{put_change, put_line, put_refusal};
 
 // The most bytes that a line has: so much room a line asks for.
 pub const ROOM: usize = 128;

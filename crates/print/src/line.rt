@@ -1,7 +1,7 @@
 // The lines that `hallcheck` prints.
 ghost use Rattle.std.specs.Prelude.{◌≡◌, [], ◌∷◌, ◌++◌, ◌+◌, ◌*◌, ◌<◌, ◌≤◌, length, ltb};
 ghost use Rattle.print.specs.Text.{Wrote, WroteIfRoom, decimal};
-ghost use Rattle.print.specs.Lines.{line, change, link_text, values};
+ghost use Rattle.print.specs.Lines.{line, refusal_line, change, link_text, values};
 ghost use Rattle.meaning.specs.declared.Answer.TheVariants.{Went};
 
 use crate::ROOM;
@@ -65,17 +65,24 @@ fn put_fate(buf: &mut [u8], at: usize, place: u64, fate: Fate) -> usize
     }
 }
 
+// The line of a refusal.
+#[tactic(auto, unfolding(crate::specs::Lines::refusal_line, crate::specs::Lines::word, crate::specs::Lines::values))]
+fn write_refusal(buf: &mut [u8], at: usize, place: u64, number: u8) -> usize
+    requires { at + 128 ≤ length buf.old }
+    ensures { Wrote 128 (refusal_line place number) buf.old buf.new at result }
+{
+    put_words(buf, at, place, b" refused", &[number as u64])
+}
+
 // A record's line.
-#[tactic(auto, unfolding(crate::specs::Lines::line, crate::specs::Lines::word, crate::specs::Lines::values, meaning::specs::Answers::said))]
+#[tactic(auto, unfolding(crate::specs::Lines::line, crate::specs::Lines::refusal_line, crate::specs::Lines::word, crate::specs::Lines::values, meaning::specs::Answers::said))]
 fn write_line(buf: &mut [u8], at: usize, place: u64, answer: Answer) -> usize
     requires { at + 128 ≤ length buf.old }
     ensures { Wrote 128 (line place answer) buf.old buf.new at result }
 {
     match answer {
         Answer::End => put_words(buf, at, place, b" end", &[]),
-        Answer::Refused(why) => {
-            put_words(buf, at, place, b" refused", &[u64::from(u8::from(why))])
-        }
+        Answer::Refused(why) => write_refusal(buf, at, place, u8::from(why)),
         Answer::Ok => put_words(buf, at, place, b" ok", &[]),
         Answer::Changed(n) => put_words(buf, at, place, b" ok", &[n as u64]),
         Answer::Loop(a, v) => put_words(buf, at, place, b" loop", &[a, v as u64]),
@@ -95,6 +102,17 @@ pub fn put_line(buf: &mut [u8], at: usize, place: u64, answer: Answer) -> usize
         return at;
     }
     write_line(buf, at, place, answer)
+}
+
+// The line of a refusal by its number, whatever the number: `put_line` writes those that document 01 has. Where there is too little room for one,
+// nothing is written.
+pub fn put_refusal(buf: &mut [u8], at: usize, place: u64, number: u8) -> usize
+    ensures { WroteIfRoom 128 (refusal_line place number) buf.old buf.new at result }
+{
+    if is_full(buf, at) {
+        return at;
+    }
+    write_refusal(buf, at, place, number)
 }
 
 // The line of an entry of a change list.
