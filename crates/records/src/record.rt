@@ -7,6 +7,7 @@ use meaning::{Read, Record, Refusal};
 
 // What s begins with: nothing, a record and its length, a body that is cut off, or a kind that is unknown. Of a number in several bytes the
 // highest stands first: r1 and r0 are those of a rule's number, p3 to p0 of a prefix, t1 and t0 of a priority, a3 to a0 of an address.
+#[tactic(auto, using(crate::proofs::CutOff::cut_off))]
 pub fn read_record(s: &[u8]) -> Read
     ensures { said_read result ≡ said_read (read_of s.now) }
 {

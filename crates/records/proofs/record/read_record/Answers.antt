@@ -1,12 +1,12 @@
 -- `records::record::read_record` meets its contract: each arm's kind and length are a case of `read_of`, and its fields are those of `record_of`.
 -- Assumes nothing.
 use Prim.Native.Nat.{ℕ, suc, ◌+◌, ◌*◌, ◌<◌, ◌≤◌}
-use Rattle.meaning.proofs.records.Reading.{read_end, read_unknown, read_short, read_got, byte, number_two, number_four, is_hall, is_link, is_close, is_insert, is_remove, is_loop, is_fate, is_reach, is_tally}
+use Rattle.meaning.proofs.records.Reading.{read_end, read_unknown, read_got, byte, number_two, number_four, is_hall, is_link, is_close, is_insert, is_remove, is_loop, is_fate, is_reach, is_tally}
 use Rattle.meaning.proofs.base.Search.{and_both}
 use Rattle.meaning.specs.Answers.{said_read}
 use Rattle.meaning.specs.Records.{got as read, number, is_kind, body_of, record_of, read_of}
 use Rattle.std.specs.Prelude.{Err}
-use Rattle.meaning.specs.declared.Refusal.TheVariants.{UnknownKind, CutOff}
+use Rattle.meaning.specs.declared.Refusal.TheVariants.{UnknownKind}
 use Rattle.meaning.specs.declared.Record.{Record}
 use borrow.Author.Tests.{ltb-true, leb-true}
 use lib.Dec.{ltb, leb}
@@ -34,12 +34,6 @@ module _ (s body : List ℕ) (k : ℕ) (e : (s ≡ k ∷ body) × (length body +
       let here : get_or s 0 0 ≡ j = kind ∙ f in
       let long : 1 + body_of (get_or s 0 0) ≡ n = ap (λ (x : ℕ). 1 + body_of x) here ∙ size in
       ap said_read (ap₂ read (same here) (sym long) ∙ read_got s some (ap is_kind here ∙ is) (omega (arith, e.1)))
-
-  -- or they are not there
-  short : (j : ℕ) → k ≡ j → is_kind j ≡ true → length body < body_of j → said_read (Err CutOff) ≡ said_read (read_of s)
-  short j f is h =
-      let here : get_or s 0 0 ≡ j = kind ∙ f in
-      ap said_read (read_short s some (ap is_kind here ∙ is) (omega (arith, e.1, ap body_of here)))
 
   -- or k is no kind
   unknown : ((0 < k) × (k ≤ 9) → ⊥) → said_read (Err UnknownKind) ≡ said_read (read_of s)
@@ -133,31 +127,3 @@ returns-in-0-default c = unknown _ _ _ c.in-Some.ensures.cases (λ p. grind arit
 
 pub returns-in-0-default-2 : goal.returns-in-0-default-2
 returns-in-0-default-2 c = unknown _ _ _ c.in-Some.ensures.cases (λ p. grind arith)
-
-pub returns-in-1-to-9-default : goal.returns-in-1-to-9-default
-unfolding is_kind body_of
-returns-in-1-to-9-default c = short _ _ _ c.in-Some.ensures.cases 1 c.in-1-to-9-default.is-0 refl (omega arith)
-
-pub returns-in-1-to-9-default-2 : goal.returns-in-1-to-9-default-2
-unfolding is_kind body_of
-returns-in-1-to-9-default-2 c = short _ _ _ c.in-Some.ensures.cases 2 c.in-1-to-9-default.is-0 refl (omega arith)
-
-pub returns-in-1-to-9-default-3 : goal.returns-in-1-to-9-default-3
-unfolding is_kind body_of
-returns-in-1-to-9-default-3 c = short _ _ _ c.in-Some.ensures.cases 4 c.in-1-to-9-default.is-0 refl (omega arith)
-
-pub returns-in-1-to-9-default-4 : goal.returns-in-1-to-9-default-4
-unfolding is_kind body_of
-returns-in-1-to-9-default-4 c = short _ _ _ c.in-Some.ensures.cases 5 c.in-1-to-9-default.is-0 refl (omega arith)
-
-pub returns-in-1-to-9-default-5 : goal.returns-in-1-to-9-default-5
-unfolding is_kind body_of
-returns-in-1-to-9-default-5 c = short _ _ _ c.in-Some.ensures.cases 7 c.in-1-to-9-default.is-0 refl (omega arith)
-
-pub returns-in-1-to-9-default-6 : goal.returns-in-1-to-9-default-6
-unfolding is_kind body_of
-returns-in-1-to-9-default-6 c = short _ _ _ c.in-Some.ensures.cases 8 c.in-1-to-9-default.is-0 refl (omega arith)
-
-pub returns-in-1-to-9-default-7 : goal.returns-in-1-to-9-default-7
-unfolding is_kind body_of
-returns-in-1-to-9-default-7 c = short _ _ _ c.in-Some.ensures.cases 9 c.in-1-to-9-default.is-0 refl (omega arith)
