@@ -99,6 +99,7 @@ impl Out {
     // A line for each entry of the change list, of five words each.
     fn print_changes(&mut self, rt: &impl Print, list: &[u64]) -> io::Result<()> {
         for entry in list.chunks_exact(5) {
+            prove!(entry.len() == 5);
             self.make_room(rt)?;
             self.length = print::put_change(
                 &mut self.bytes,
