@@ -4,7 +4,7 @@
 // behind the others stands a kind 0.
 #![tactic(auto)]
 
-use meaning::{Answer, Hall, LIST_ROOM};
+use meaning::{Answer, LIST_ROOM};
 use std::io;
 
 // A refusal by its number, "end" by 14, anything else by 15.
@@ -16,29 +16,29 @@ fn number_of(answer: Answer) -> u8 {
     }
 }
 
-// Runs over a stream with this hall, whatever it held, and this list, and returns the answer at which the run stops, by its number.
-fn stop_of(stream: &[u8], hall: &mut Hall, list: &mut [u64]) -> u8 {
-    let ran = stream::run_stream(stream, hall, list);
+// Runs over a stream with this list, and returns the answer at which the run stops, by its number.
+fn stop_of(stream: &[u8], list: &mut [u64]) -> u8 {
+    let mut hall = stream::new_box();
+    let ran = stream::run_stream(stream, &mut hall, list);
     number_of(ran.stopped)
 }
 
 // Prints where the runs with this list stop: over nothing, over an insert cut off, and over each kind, known and unknown, with zeros behind it.
-fn say_stops(rt: &impl Print, hall: &mut Hall, list: &mut [u64]) -> io::Result<()> {
-    println!(rt; "{}", stop_of(&[], hall, list))?;
-    println!(rt; "{}", stop_of(&[4], hall, list))?;
+fn say_stops(rt: &impl Print, list: &mut [u64]) -> io::Result<()> {
+    println!(rt; "{}", stop_of(&[], list))?;
+    println!(rt; "{}", stop_of(&[4], list))?;
     for kind in 0..=10u8 {
         let mut stream = [0; 11];
         stream[0] = kind;
-        println!(rt; "{kind} {}", stop_of(&stream, hall, list))?;
+        println!(rt; "{kind} {}", stop_of(&stream, list))?;
     }
     Ok(())
 }
 
 fn main(rt: HostRuntime) -> io::Result<()> {
-    let mut hall = stream::new_box();
     let mut short = [7u64; LIST_ROOM - 1];
-    say_stops(&rt, &mut hall, &mut short)?;
+    say_stops(&rt, &mut short)?;
     let mut full = [7u64; LIST_ROOM];
-    say_stops(&rt, &mut hall, &mut full)?;
+    say_stops(&rt, &mut full)?;
     println!(rt; "{} {}", short[0], full[LIST_ROOM - 1])
 }
