@@ -20,7 +20,7 @@ module _ (s body : List ℕ) (k : ℕ) (e : (s ≡ k ∷ body) × (length body +
       let here : get_or s 0 0 ≡ j = ap (λ (x : List ℕ). get_or x 0 0) e.0 ∙ f in
       ap said_read (read_short s (λ z. omega (arith, e.1)) (ap is_kind here ∙ is) (omega (arith, e.1, ap body_of here)))
 
-  -- how many bytes a body has, kind by kind
+  -- of a kind, and fewer bytes than its body has
   pub cut_off : (k ≡ 1) × (length body < 1) ⊎ (k ≡ 2) × (length body < 3) ⊎ (k ≡ 4) × (length body < 10) ⊎ (k ≡ 5) × (length body < 2)
       ⊎ (k ≡ 7) × (length body < 5) ⊎ (k ≡ 8) × (length body < 2) ⊎ (k ≡ 9) × (length body < 1) → said_read (Err CutOff) ≡ said_read (read_of s)
   unfolding is_kind body_of

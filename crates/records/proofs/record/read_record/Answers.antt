@@ -1,5 +1,5 @@
 -- `records::record::read_record` meets its contract: each arm's kind and length are a case of `read_of`, and its fields are those of `record_of`.
--- Assumes nothing.
+-- Of a body that is cut off the search finds it by `CutOff`. Assumes nothing.
 use Prim.Native.Nat.{ℕ, suc, ◌+◌, ◌*◌, ◌<◌, ◌≤◌}
 use Rattle.meaning.proofs.records.Reading.{read_end, read_unknown, read_got, byte, number_two, number_four, is_hall, is_link, is_close, is_insert, is_remove, is_loop, is_fate, is_reach, is_tally}
 use Rattle.meaning.proofs.base.Search.{and_both}
